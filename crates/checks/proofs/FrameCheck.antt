@@ -1,0 +1,70 @@
+-- Laws of the frame check's register: it keeps xor, it stays below 65,536, its bits enter low first, and a step by the table.
+-- Assumes nothing.
+use Prim.Native.Nat.{ℕ, zero, suc, _+_, _*_, _/_, _%_, _^_, _<_}
+use mathlib.Core.Path.{_≡_, _∙_, ap, ap₂, refl, sym}
+use native.Mathlib.Nat.{div-div-eq-div-mul, div-eq-of-lt, mod-lt, mul-one, zero-lt-suc, zero-mul}
+use native.Mathlib.Omega.{arith}
+use lib.Bits.{bitXor, shifted-even, shifted-half, xor-lt, xor-shifted, xor-shr, xor-zero-r}
+use lib.Pow.{pow-pos, split}
+use Rattle.checks.specs.Register.{bitStep, bitSteps, byteStep}
+use Rattle.checks.specs.FrameCheck.{frameRegister}
+use Rattle.checks.specs.Laws.{Differences, InOrder, LinearOverXor, NotInOrder, StaysBelow, bitEnters, bitsEnter, highFirst, lowFirst}
+use Rattle.checks.proofs.Register.{KeepsXor, differences, in-order, leavings, left, linear, stays-below, steps-xor}
+use Rattle.checks.proofs.Xor.{low-xor}
+
+keeps-xor : KeepsXor frameRegister
+keeps-xor = record { moved-xor = λ a b. xor-shr a b 1; leaving-xor = low-xor; leaving-bit = λ a. mod-lt a (zero-lt-suc 1) }
+
+pub frame-linear : LinearOverXor frameRegister
+frame-linear = linear frameRegister keeps-xor
+
+pub frame-differences : Differences frameRegister
+frame-differences = differences frameRegister keeps-xor
+
+step-below : (r : ℕ) → r < 2 ^ 16 → bitStep frameRegister r < 2 ^ 16
+unfolding bitStep
+step-below r h = xor-lt 16 (r / 2) (r % 2 * frameRegister .polynomial) (omega arith) (omega arith)
+
+pub frame-below : StaysBelow 65536 frameRegister
+frame-below = stays-below frameRegister 16 (omega arith) step-below
+
+leave-low-first : (b : ℕ) → leavings frameRegister 8 b ≡ lowFirst b
+leave-low-first b = simp div-div-eq-div-mul
+
+none-left : (b : ℕ) → b < 256 → left frameRegister 8 b ≡ 0
+none-left b h = simp div-div-eq-div-mul (omega arith)
+
+pub frame-low-first : InOrder lowFirst frameRegister
+frame-low-first = in-order frameRegister keeps-xor lowFirst leave-low-first none-left
+
+-- a register of 0 and the byte 01 tell the two orders apart
+pub frame-not-high-first : NotInOrder highFirst frameRegister
+unfolding byteStep bitSteps bitStep bitsEnter bitEnters
+frame-not-high-first h = omega (arith, h 0 1 (omega arith))
+
+-- a step of a number whose low bit is 0
+step-even : (a k : ℕ) → bitStep frameRegister (a * 2 ^ suc k) ≡ a * 2 ^ k
+unfolding bitStep
+step-even a k =
+    ap₂ (λ (x y : ℕ). bitXor x (y * frameRegister .polynomial)) (shifted-half a k) (shifted-even a k)
+    ∙ ap (bitXor (a * 2 ^ k)) (zero-mul (frameRegister .polynomial)) ∙ xor-zero-r (a * 2 ^ k)
+
+steps-even : (n a : ℕ) → bitSteps frameRegister n (a * 2 ^ n) ≡ a
+unfolding bitSteps
+steps-even zero a = mul-one a
+steps-even (suc n) a = ap (bitSteps frameRegister n) (step-even a n) ∙ steps-even n a
+
+-- n bit steps are those of the low n bits, and the rest moved on: what a table of 2 ^ n entries rests on
+pub low-bits : (n x : ℕ) → bitSteps frameRegister n x ≡ bitXor (x / 2 ^ n) (bitSteps frameRegister n (x % 2 ^ n))
+low-bits n x =
+    ap (bitSteps frameRegister n) (sym (split x n) ∙ sym (xor-shifted (x / 2 ^ n) n (x % 2 ^ n) (mod-lt x (pow-pos n))))
+    ∙ steps-xor frameRegister keeps-xor n (x / 2 ^ n * 2 ^ n) (x % 2 ^ n)
+    ∙ ap (λ (y : ℕ). bitXor y (bitSteps frameRegister n (x % 2 ^ n))) (steps-even n (x / 2 ^ n))
+
+-- a byte's step, as a table of 256 entries makes it
+pub by-table : (r b : ℕ) → b < 256 → bitXor (r / 256) (bitSteps frameRegister 8 (bitXor r b % 256)) ≡ byteStep frameRegister r b
+unfolding byteStep
+by-table r b h =
+    sym (low-bits 8 (bitXor r b)
+    ∙ ap (λ (y : ℕ). bitXor y (bitSteps frameRegister 8 (bitXor r b % 256)))
+    (xor-shr r b 8 ∙ ap (bitXor (r / 256)) (div-eq-of-lt h) ∙ xor-zero-r (r / 256)))

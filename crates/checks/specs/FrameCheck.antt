@@ -1,0 +1,15 @@
+-- The frame check of DSP0253, which is the 16-bit FCS of RFC 1662 sent without its last complement: low bit first, polynomial 0x8408 in
+-- reflected form, from 0xffff. Assumes nothing.
+use Prim.Native.Nat.{ℕ, _/_, _%_}
+use mathlib.Core.List.{List}
+use Rattle.checks.specs.Register.{Register, check, checkFrom}
+
+-- 16 bits that move to the right: the low bit leaves
+abbrev pub frameRegister : Register
+frameRegister = record { moved = λ r. r / 2; leaving = λ r. r % 2; polynomial = 0x8408; start = 0xffff }
+
+abbrev pub frameCheckFrom : ℕ → List ℕ → ℕ
+frameCheckFrom register bytes = checkFrom frameRegister register bytes
+
+abbrev pub frameCheck : List ℕ → ℕ
+frameCheck bytes = check frameRegister bytes

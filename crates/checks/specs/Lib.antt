@@ -1,0 +1,5 @@
+pub mod Table
+pub mod Register
+pub mod FrameCheck
+pub mod PacketErrorCode
+pub mod Laws

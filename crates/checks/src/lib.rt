@@ -1,0 +1,8 @@
+// The two check values that the wires lean on.
+mod frame;
+mod smbus;
+
+pub use frame::frame_check;
+pub use frame::frame_check_from;
+pub use smbus::pec;
+pub use smbus::pec_from;

@@ -1,0 +1,117 @@
+// The text of a stored list. A line is a vector: fields in lower-case hex, a space between two of them, `-` for a field of no bytes. An empty
+// line, and one that begins with '#', is no vector.
+ghost use Prim.Native.Nat.{_≤_};
+ghost use lib.ListN.{length};
+ghost use Rattle.io.specs.Counts.{Counts};
+
+// Reads the file into room, and answers how many bytes it has. One that can't be read, or fills the room so that its end isn't seen, is
+// named on standard error and counts as empty.
+pub(crate) fn load(path: &[u8], room: &mut [u8]) -> usize
+    ensures { λ r. ⌜ Counts r (now (room .exit)) ⌝ }
+{
+    let fd = os::open_read(path);
+    if fd < 0 {
+        os::fail(path);
+        return 0;
+    }
+    let n = io::read_full(fd, room);
+    libc::close(fd);
+    if n == room.len() {
+        io::write_all(
+            libc::STDERR_FILENO,
+            b"a list is too long for the room that main lends\n",
+        );
+        return 0;
+    }
+    n
+}
+
+// Whether the line is a vector.
+pub(crate) fn is_vector(line: &[u8]) -> bool {
+    if line.len() == 0 {
+        return false;
+    }
+    line[0] != b'#'
+}
+
+// Where the byte stands next, from `at` on, or the text's end where it stands nowhere: a line ends at a line feed, a field at a space.
+pub(crate) fn next(text: &[u8], at: usize, byte: u8) -> usize
+    requires { ⌜ at ≤ length (now text) ⌝ }
+    ensures { λ r. ⌜ (at ≤ r) × Counts r (now (text .entry)) ⌝ }
+{
+    bytes::scan::find(text, at, text.len(), byte)
+}
+
+// The bytes of a field: how many there are, or that the field is none.
+pub(crate) struct Decoded {
+    pub ok: bool,
+    pub count: usize,
+}
+
+// Puts the field's bytes at the start of out. A field with an odd number of digits, with anything but digits, or longer than out is none.
+pub(crate) fn decode(field: &[u8], out: &mut [u8]) -> Decoded
+    ensures { λ r. ⌜ Counts (r .count) (now (out .exit)) ⌝ }
+{
+    if is_dash(field) {
+        return Decoded { ok: true, count: 0 };
+    }
+    let digits = field.len();
+    let count = digits / 2;
+    if digits % 2 != 0 {
+        return Decoded {
+            ok: false,
+            count: 0,
+        };
+    }
+    if out.len() < count {
+        return Decoded {
+            ok: false,
+            count: 0,
+        };
+    }
+    let mut i = 0;
+    while i < count {
+        let high = digit(field[2 * i]);
+        let low = digit(field[2 * i + 1]);
+        if 16 <= high {
+            return Decoded {
+                ok: false,
+                count: 0,
+            };
+        }
+        if 16 <= low {
+            return Decoded {
+                ok: false,
+                count: 0,
+            };
+        }
+        out[i] = high * 16 + low;
+        i += 1;
+    }
+    Decoded { ok: true, count }
+}
+
+fn is_dash(field: &[u8]) -> bool {
+    if field.len() != 1 {
+        return false;
+    }
+    field[0] == b'-'
+}
+
+// The value of a digit, or 16 where it is none.
+fn digit(c: u8) -> u8
+    ensures { λ r. ⌜ r ≤ 16 ⌝ }
+{
+    match c {
+        b'0'..=b'9' => c - b'0',
+        b'a'..=b'f' => c - b'a' + 10,
+        _ => 16,
+    }
+}
+
+// Half of the bytes, rounded down: where a list is cut in two.
+pub(crate) fn half(bytes: &[u8]) -> usize
+    ensures { λ r. ⌜ Counts r (now (bytes .entry)) ⌝ }
+{
+    bytes.len() / 2
+}
