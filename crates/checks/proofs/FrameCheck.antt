@@ -1,14 +1,15 @@
 -- Laws of the frame check's register: it keeps xor, it stays below 65,536, its bits enter low first, and a step by the table.
 -- Assumes nothing.
-use Prim.Native.Nat.{ℕ, zero, suc, _+_, _*_, _/_, _%_, _^_, _<_}
-use mathlib.Core.Path.{_≡_, _∙_, ap, ap₂, refl, sym}
+use Prim.Native.Nat.{ℕ, zero, suc, _*_, _/_, _%_, _^_, _<_}
+use mathlib.Core.Path.{_≡_, _∙_, ap, ap₂, sym}
 use native.Mathlib.Nat.{div-div-eq-div-mul, div-eq-of-lt, mod-lt, mul-one, zero-lt-suc, zero-mul}
 use native.Mathlib.Omega.{arith}
 use lib.Bits.{bitXor, shifted-even, shifted-half, xor-lt, xor-shifted, xor-shr, xor-zero-r}
 use lib.Pow.{pow-pos, split}
 use Rattle.checks.specs.Register.{bitStep, bitSteps, byteStep}
 use Rattle.checks.specs.FrameCheck.{frameRegister}
-use Rattle.checks.specs.Laws.{Differences, InOrder, LinearOverXor, NotInOrder, StaysBelow, bitEnters, bitsEnter, highFirst, lowFirst}
+use Rattle.checks.specs.Laws.{StaysBelow, LinearOverXor, Differences}
+use Rattle.checks.specs.BitOrder.{bitEnters, bitsEnter, highFirst, InOrder, lowFirst, NotInOrder}
 use Rattle.checks.proofs.Register.{KeepsXor, differences, in-order, leavings, left, linear, stays-below, steps-xor}
 use Rattle.checks.proofs.Xor.{low-xor}
 

@@ -7,7 +7,8 @@ use native.Mathlib.Omega.{arith}
 use lib.Bits.{bitXor, xor-block, xor-lt, xor-mod, xor-shr}
 use Rattle.checks.specs.Register.{bitStep, bitSteps, byteStep}
 use Rattle.checks.specs.PacketErrorCode.{pecRegister}
-use Rattle.checks.specs.Laws.{Differences, InOrder, LinearOverXor, NotInOrder, StaysBelow, bitEnters, bitsEnter, highFirst, lowFirst}
+use Rattle.checks.specs.Laws.{StaysBelow, LinearOverXor, Differences}
+use Rattle.checks.specs.BitOrder.{bitEnters, bitsEnter, highFirst, InOrder, lowFirst, NotInOrder}
 use Rattle.checks.proofs.Register.{KeepsXor, byte-below, differences, in-order, leavings, left, linear, stays-below}
 use Rattle.checks.proofs.Xor.{low-xor}
 

@@ -2,15 +2,16 @@
 -- Assumes nothing.
 use Prim.Native.Nat.{ℕ, zero, suc, _+_, _*_, _^_, _≤_, _<_}
 use mathlib.Core.Path.{_≡_, _∙_, ap, ap₂, refl, sym}
-use mathlib.Core.List.{List, [], _∷_, _++_, zipWith}
-use native.Mathlib.Nat.{lt-of-lt-of-le, zero-lt-suc}
+use mathlib.Core.List.{List, [], _∷_, zipWith}
+use native.Mathlib.Nat.{lt-of-lt-of-le}
 use native.Mathlib.Numerals.{add-one}
 use native.Mathlib.Omega.{arith}
 use lib.Bits.{bitXor, differ, xor-lt, xor-self, xor-zero-r}
 use lib.ListN.{length, drop, getD, drop-of-length-le}
 use lib.Seq.{drop-cons}
 use Rattle.checks.specs.Register.{Register, bitStep, bitSteps, byteStep, checkFrom}
-use Rattle.checks.specs.Laws.{InOrder, Joins, OneMore, StaysBelow, LinearOverXor, Differences, bitEnters, bitsEnter}
+use Rattle.checks.specs.Laws.{Joins, OneMore, StaysBelow, LinearOverXor, Differences}
+use Rattle.checks.specs.BitOrder.{bitEnters, bitsEnter, InOrder}
 use Rattle.checks.proofs.Xor.{xor-swap, xor-right, differ-times}
 
 pub joins : (g : Register) → Joins g

@@ -3,3 +3,4 @@ pub mod Register
 pub mod FrameCheck
 pub mod PacketErrorCode
 pub mod Laws
+pub mod BitOrder

@@ -1,10 +1,10 @@
-// The frame check of the serial binding, by a table of 256 entries.
+// The frame check of the serial binding (DSP0253), a byte at a time by a table of 256 entries. It is the register of RFC 1662's FCS as it
+// stands, without complement; the sender puts its high byte first.
 ghost use mathlib.Core.Path.{_≡_};
 ghost use Rattle.checks.specs.Table.{tableOf};
 ghost use Rattle.checks.specs.Register.{bitSteps};
 ghost use Rattle.checks.specs.FrameCheck.{frameRegister, frameCheckFrom, frameCheck};
 
-// Entry i is eight bit steps of i.
 const TABLE: [u16; 256] = [
     0x0000,
     0x1189,
@@ -264,21 +264,22 @@ const TABLE: [u16; 256] = [
     0x0f78,
 ];
 
-// The table, made once for a call and not at each lookup.
+// The table: entry i is eight bit steps of i. A call fetches it once, and not at each lookup.
 fn frame_table() -> [u16; 256]
     ensures { λ r. ⌜ r ≡ tableOf (bitSteps frameRegister 8) 256 ⌝ }
 {
     TABLE
 }
 
-// The frame check of the bytes.
+// The frame check of the bytes, of any number of them, also none (0xffff). It refuses nothing and changes nothing.
 pub fn frame_check(bytes: &[u8]) -> u16
     ensures { λ r. ⌜ r ≡ frameCheck (now (bytes .entry)) ⌝ }
 {
     frame_check_from(0xffff, bytes)
 }
 
-// The register after the bytes, from a given register on: where an earlier call stopped, a later one goes on.
+// The register after the bytes, from any register on: a later call goes on where an earlier one stopped. It refuses nothing and changes
+// nothing.
 pub fn frame_check_from(register: u16, bytes: &[u8]) -> u16
     ensures { λ r. ⌜ r ≡ frameCheckFrom register (now (bytes .entry)) ⌝ }
 {

@@ -1,4 +1,4 @@
-// The two check values that the wires lean on.
+// The two check values that the wires lean on: the frame check (serial) and the packet error code (I2C).
 mod frame;
 mod smbus;
 

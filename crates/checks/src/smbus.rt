@@ -1,10 +1,9 @@
-// The packet error code of SMBus, by a table of 256 entries.
+// The packet error code (PEC) of SMBus, which the I2C binding (DSP0237) takes over, a byte at a time by a table of 256 entries.
 ghost use mathlib.Core.Path.{_≡_};
 ghost use Rattle.checks.specs.Table.{tableOf};
 ghost use Rattle.checks.specs.Register.{bitSteps};
 ghost use Rattle.checks.specs.PacketErrorCode.{pecRegister, pecFrom, pecOf};
 
-// Entry i is eight bit steps of i.
 const TABLE: [u8; 256] = [
     0x00,
     0x07,
@@ -264,21 +263,22 @@ const TABLE: [u8; 256] = [
     0xf3,
 ];
 
-// The table, made once for a call and not at each lookup.
+// The table: entry i is eight bit steps of i. A call fetches it once, and not at each lookup.
 fn pec_table() -> [u8; 256]
     ensures { λ r. ⌜ r ≡ tableOf (bitSteps pecRegister 8) 256 ⌝ }
 {
     TABLE
 }
 
-// The PEC of the bytes.
+// The PEC of the bytes, of any number of them, also none (0). It refuses nothing and changes nothing.
 pub fn pec(bytes: &[u8]) -> u8
     ensures { λ r. ⌜ r ≡ pecOf (now (bytes .entry)) ⌝ }
 {
     pec_from(0, bytes)
 }
 
-// The register after the bytes, from a given register on: where an earlier call stopped, a later one goes on.
+// The register after the bytes, from any register on: a later call goes on where an earlier one stopped. It refuses nothing and changes
+// nothing.
 pub fn pec_from(register: u8, bytes: &[u8]) -> u8
     ensures { λ r. ⌜ r ≡ pecFrom register (now (bytes .entry)) ⌝ }
 {

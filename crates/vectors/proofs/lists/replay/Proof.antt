@@ -1,5 +1,5 @@
 -- `vectors::lists::replay` is safe and ends. The loop's invariant: the counts are within the place reached. Assumes nothing.
-use Prim.Native.Nat.{ℕ, _+_, _-_, _≤_}
+use Prim.Native.Nat.{_+_, _-_, _≤_}
 use mathlib.Core.Logic.{⊎-elim}
 use native.Mathlib.Omega.{arith}
 use lib.ListN.{length}

@@ -1,6 +1,6 @@
 -- `vectors::text::decode` meets its contract. The loop's invariant: two digits are there for each byte, and room for the byte.
 -- Assumes nothing.
-use Prim.Native.Nat.{ℕ, _*_, _-_, _≤_}
+use Prim.Native.Nat.{_*_, _-_, _≤_}
 use mathlib.Core.Path.{_≡_}
 use native.Mathlib.Omega.{arith}
 use lib.ListN.{length}
