@@ -26,10 +26,7 @@ pub(crate) fn agree(
 // Says that a line is no vector, which counts as a disagreement: answers false.
 pub(crate) fn malformed(path: &[u8], number: usize) -> bool {
     vector(path, number);
-    io::write_all(
-        STDOUT_FILENO,
-        b"not of the form that the list's first lines give\n",
-    );
+    io::write_all(STDOUT_FILENO, b"not of this list's form\n");
     false
 }
 

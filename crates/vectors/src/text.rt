@@ -1,11 +1,12 @@
 // The text of a stored list. A line is a vector: fields in lower-case hex, a space between two of them, `-` for a field of no bytes. An empty
 // line, and one that begins with '#', is no vector.
+ghost use mathlib.Core.Path.{_≡_};
 ghost use Prim.Native.Nat.{_≤_};
 ghost use lib.ListN.{length};
 ghost use Rattle.io.specs.Counts.{Counts};
 
-// Reads the file into room, and answers how many bytes it has. One that can't be read, or fills the room so that its end isn't seen, is
-// named on standard error and counts as empty.
+// Reads the file into room, and answers how many bytes it has. One that can't be read, is empty, or leaves no room behind it, so that its end
+// isn't seen, is named on standard error, and the answer is 0.
 pub(crate) fn load(path: &[u8], room: &mut [u8]) -> usize
     ensures { λ r. ⌜ Counts r (now (room .exit)) ⌝ }
 {
@@ -16,14 +17,23 @@ pub(crate) fn load(path: &[u8], room: &mut [u8]) -> usize
     }
     let n = io::read_full(fd, room);
     libc::close(fd);
+    if n == 0 {
+        unfit(path, b": nothing could be read of this list\n");
+        return 0;
+    }
     if n == room.len() {
-        io::write_all(
-            libc::STDERR_FILENO,
-            b"a list is too long for the room that main lends\n",
+        unfit(
+            path,
+            b": this list is too long for the room that main has\n",
         );
         return 0;
     }
     n
+}
+
+fn unfit(path: &[u8], why: &[u8]) {
+    io::write_all(libc::STDERR_FILENO, path);
+    io::write_all(libc::STDERR_FILENO, why);
 }
 
 // Whether the line is a vector.
@@ -48,47 +58,44 @@ pub(crate) struct Decoded {
     pub count: usize,
 }
 
-// Puts the field's bytes at the start of out. A field with an odd number of digits, with anything but digits, or longer than out is none.
+// Puts the field's bytes at the start of out. A field with no digit or an odd number of them, with anything else, or longer than out is none.
 pub(crate) fn decode(field: &[u8], out: &mut [u8]) -> Decoded
     ensures { λ r. ⌜ Counts (r .count) (now (out .exit)) ⌝ }
 {
     if is_dash(field) {
-        return Decoded { ok: true, count: 0 };
+        return answer(true, 0);
     }
     let digits = field.len();
     let count = digits / 2;
     if digits % 2 != 0 {
-        return Decoded {
-            ok: false,
-            count: 0,
-        };
+        return answer(false, 0);
+    }
+    if count == 0 {
+        return answer(false, 0);
     }
     if out.len() < count {
-        return Decoded {
-            ok: false,
-            count: 0,
-        };
+        return answer(false, 0);
     }
     let mut i = 0;
     while i < count {
         let high = digit(field[2 * i]);
         let low = digit(field[2 * i + 1]);
         if 16 <= high {
-            return Decoded {
-                ok: false,
-                count: 0,
-            };
+            return answer(false, 0);
         }
         if 16 <= low {
-            return Decoded {
-                ok: false,
-                count: 0,
-            };
+            return answer(false, 0);
         }
         out[i] = high * 16 + low;
         i += 1;
     }
-    Decoded { ok: true, count }
+    answer(true, count)
+}
+
+fn answer(ok: bool, count: usize) -> Decoded
+    ensures { λ r. ⌜ r .count ≡ count ⌝ }
+{
+    Decoded { ok, count }
 }
 
 fn is_dash(field: &[u8]) -> bool {
