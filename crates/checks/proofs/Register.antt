@@ -23,11 +23,11 @@ pub one-more : (g : Register) → OneMore g
 unfolding checkFrom
 one-more g r bytes b = joins g r bytes (b ∷ [])
 
--- A list read by index: what is left from i on, after the byte at i, and past the end.
-pub check-next : (g : Register) (bytes : List ℕ) (r i : ℕ) → i < length bytes
-    → checkFrom g (byteStep g r (getD bytes i 0)) (drop (i + 1) bytes) ≡ checkFrom g r (drop i bytes)
+-- A list read by index: what is left from i on, where `next` is the register after the byte at i; and past the end.
+pub check-next : (g : Register) (bytes : List ℕ) (r next i : ℕ) → i < length bytes → next ≡ byteStep g r (getD bytes i 0)
+    → checkFrom g next (drop (i + 1) bytes) ≡ checkFrom g r (drop i bytes)
 unfolding checkFrom
-check-next g bytes r i h = rw (add-one, drop-cons bytes i 0)
+check-next g bytes r next i h e = rw (e, add-one, drop-cons bytes i 0)
 
 pub check-end : (g : Register) (bytes : List ℕ) (r i : ℕ) → length bytes ≤ i → checkFrom g r (drop i bytes) ≡ r
 unfolding checkFrom

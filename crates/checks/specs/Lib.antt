@@ -4,3 +4,4 @@ pub mod FrameCheck
 pub mod PacketErrorCode
 pub mod Laws
 pub mod BitOrder
+pub mod OneResult

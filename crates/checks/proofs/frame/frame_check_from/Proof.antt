@@ -1,6 +1,6 @@
 -- `checks::frame_check_from` meets its contract. The loop's invariant: the check of what is left, from the register on, is the check of the
 -- whole. A turn is one byte step: the table's entry, by its rule, and the register's high byte. Assumes nothing.
-use Prim.Native.Nat.{ℕ, _+_, _-_, _/_, _%_, _≤_}
+use Prim.Native.Nat.{ℕ, _-_, _/_, _%_, _≤_}
 use mathlib.Core.Path.{_≡_, _∙_, ap, refl, sym}
 use mathlib.Core.List.{List}
 use native.Mathlib.Nat.{lt-of-lt-of-le}
@@ -56,16 +56,14 @@ loop-again c =
     let bytes = l .before .before .before .args .bytes .now in
     let r = l .loop .reg in
     let b = getD bytes (l .loop .i) 0 in
-    let low = bitXor r b % 256 in (
-      search needs,
-      ap (λ (q : ℕ). frameCheckFrom q (drop (l .loop .i + 1) bytes))
-          (ap (bitXor (r / 256))
-          (ap (λ (table : List ℕ). getD table low 0) (l .before .frame-table .ensures)
-          ∙ entry (bitSteps frameRegister 8) 256 low (omega arith))
-          ∙ by-table r b (c .shared-slice-known2 .given (l .loop .i) .fits))
-          ∙ check-next frameRegister bytes r (l .loop .i) (omega arith)
-          ∙ l .loop .inv .1,
-    )
+    let low = bitXor r b % 256 in
+    let e =
+    ap (bitXor (r / 256))
+    (ap (λ (table : List ℕ). getD table low 0) (l .before .frame-table .ensures)
+    ∙ entry (bitSteps frameRegister 8) 256 low (omega arith))
+    ∙ by-table r b (c .shared-slice-known2 .given (l .loop .i) .fits)
+    in
+    (search needs, check-next frameRegister bytes r _ (l .loop .i) (omega arith) e ∙ l .loop .inv .1)
 
 returns : tie.Need-returns Inv-loop μ-loop
 returns c =

@@ -1,6 +1,6 @@
 -- `checks::pec_from` meets its contract. The loop's invariant: the PEC of what is left, from the register on, is the PEC of the whole, and
 -- the register is a byte. A turn is one byte step: the table's entry, by its rule. Assumes nothing.
-use Prim.Native.Nat.{ℕ, _+_, _-_, _≤_, _<_}
+use Prim.Native.Nat.{ℕ, _-_, _≤_, _<_}
 use mathlib.Core.Path.{_≡_, _∙_, ap, refl, subst, sym}
 use mathlib.Core.List.{List}
 use native.Mathlib.Omega.{arith}
@@ -53,12 +53,11 @@ loop-again c =
     let e =
     ap (λ (table : List ℕ). getD table (bitXor r b) 0) (l .before .pec-table .ensures)
     ∙ entry (bitSteps pecRegister 8) 256 (bitXor r b) (array-read-reg c)
-    in (
+    in
+    let byte = pec-byte-below r b (l .loop .inv .1) (c .shared-slice-known2 .given (l .loop .i) .fits) in (
       search needs,
-      subst (λ (q : ℕ). q < 256) (sym e) (pec-byte-below r b (l .loop .inv .1) (c .shared-slice-known2 .given (l .loop .i) .fits)),
-      ap (λ (q : ℕ). pecFrom q (drop (l .loop .i + 1) bytes)) e
-          ∙ check-next pecRegister bytes r (l .loop .i) (omega arith)
-          ∙ l .loop .inv .2,
+      subst (λ (q : ℕ). q < 256) (sym e) byte,
+      check-next pecRegister bytes r _ (l .loop .i) (omega arith) e ∙ l .loop .inv .2,
     )
 
 returns : tie.Need-returns Inv-loop μ-loop
