@@ -55,6 +55,7 @@ fn number_in(field: &[u8], width: usize) -> Stored {
     Stored::Number(wide(bytes[0]) * 256 + wide(bytes[1]))
 }
 
+// A byte as a wider number.
 fn wide(b: u8) -> u64
     ensures { λ r. ⌜ r < 256 ⌝ }
 {

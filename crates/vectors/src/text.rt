@@ -31,6 +31,7 @@ pub(crate) fn load(path: &[u8], room: &mut [u8]) -> usize
     n
 }
 
+// Names a list that can't be replayed, and why.
 fn unfit(path: &[u8], why: &[u8]) {
     io::write_all(libc::STDERR_FILENO, path);
     io::write_all(libc::STDERR_FILENO, why);
@@ -92,12 +93,14 @@ pub(crate) fn decode(field: &[u8], out: &mut [u8]) -> Decoded
     answer(true, count)
 }
 
+// What `decode` answers, as a value of its own, so that each return is one line.
 fn answer(ok: bool, count: usize) -> Decoded
     ensures { λ r. ⌜ r .count ≡ count ⌝ }
 {
     Decoded { ok, count }
 }
 
+// Whether the field is the one that stands for no bytes.
 fn is_dash(field: &[u8]) -> bool {
     if field.len() != 1 {
         return false;
