@@ -2,7 +2,7 @@
 -- Assumes nothing.
 use Prim.Native.Nat.{ℕ, zero, suc, _*_, _/_, _%_, _^_, _<_}
 use mathlib.Core.Path.{_≡_, _∙_, ap, ap₂, sym}
-use native.Mathlib.Nat.{div-div-eq-div-mul, div-eq-of-lt, mod-lt, mul-one, zero-lt-suc, zero-mul}
+use native.Mathlib.Nat.{div-div-eq-div-mul, div-eq-of-lt, mod-lt, mul-one, zero-mul}
 use native.Mathlib.Omega.{arith}
 use lib.Bits.{bitXor, shifted-even, shifted-half, xor-lt, xor-shifted, xor-shr, xor-zero-r}
 use lib.Pow.{pow-pos, split}
@@ -11,10 +11,10 @@ use Rattle.checks.specs.FrameCheck.{frameRegister}
 use Rattle.checks.specs.Laws.{StaysBelow, LinearOverXor, Differences}
 use Rattle.checks.specs.BitOrder.{bitEnters, bitsEnter, highFirst, InOrder, lowFirst, NotInOrder}
 use Rattle.checks.proofs.Register.{KeepsXor, differences, in-order, leavings, left, linear, stays-below, steps-xor}
-use Rattle.checks.proofs.Xor.{low-xor}
+use Rattle.checks.proofs.Xor.{half-xor, low-bit, low-xor}
 
 keeps-xor : KeepsXor frameRegister
-keeps-xor = record { moved-xor = λ a b. xor-shr a b 1; leaving-xor = low-xor; leaving-bit = λ a. mod-lt a (zero-lt-suc 1) }
+keeps-xor = record { moved-xor = half-xor; leaving-xor = low-xor; leaving-bit = low-bit }
 
 pub frame-linear : LinearOverXor frameRegister
 frame-linear = linear frameRegister keeps-xor

@@ -66,7 +66,7 @@ left g zero b = b
 left g (suc n) b = left g n (g .moved b)
 
 module _ (g : Register) (keeps : KeepsXor g) where
-  pub step-xor : (a b : ℕ) → bitStep g (bitXor a b) ≡ bitXor (bitStep g a) (bitStep g b)
+  step-xor : (a b : ℕ) → bitStep g (bitXor a b) ≡ bitXor (bitStep g a) (bitStep g b)
   unfolding bitStep
   step-xor a b =
       ap₂ (λ (m d : ℕ). bitXor m (d * g .polynomial)) (keeps .moved-xor a b) (keeps .leaving-xor a b)
