@@ -278,8 +278,8 @@ pub fn frame_check(bytes: &[u8]) -> u16
     frame_check_from(0xffff, bytes)
 }
 
-// The register after the bytes, from any register on: a later call goes on where an earlier one stopped. It refuses nothing and changes
-// nothing.
+// The register after the bytes, from any register on: a later call goes on where an earlier one stopped. After no bytes it is the register
+// that went in. It refuses nothing and changes nothing.
 pub fn frame_check_from(register: u16, bytes: &[u8]) -> u16
     ensures { λ r. ⌜ r ≡ frameCheckFrom register (now (bytes .entry)) ⌝ }
 {
