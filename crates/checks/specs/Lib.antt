@@ -4,4 +4,5 @@ pub mod FrameCheck
 pub mod PacketErrorCode
 pub mod Laws
 pub mod BitOrder
+pub mod Numbers
 pub mod OneResult

@@ -12,3 +12,10 @@ abbrev pub OneResult : (n : ℕ) (ps : List (PK n)) (r : RK n) → Out n ps r �
 OneResult n ps r ensured =
     (κs : Lfts n) (a : Dens κs ps) (x y : resT r κs .Denot) (e f : AtExit (endedOf n ps r) κs)
     → ensured κs a x e → ensured κs a y f → x ≡ y
+
+-- and of a function that is lent something to change: what it leaves there, as `left` reads it off the parameters at exit, is one too
+abbrev pub OneOutcome : (n : ℕ) (ps : List (PK n)) (r : RK n) {A : Type 0}
+    → ((κs : Lfts n) → AtExit (endedOf n ps r) κs → A) → Out n ps r → Type 0
+OneOutcome n ps r left ensured =
+    (κs : Lfts n) (a : Dens κs ps) (x y : resT r κs .Denot) (e f : AtExit (endedOf n ps r) κs)
+    → ensured κs a x e → ensured κs a y f → (x ≡ y) × (left κs e ≡ left κs f)

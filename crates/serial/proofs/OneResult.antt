@@ -1,0 +1,39 @@
+-- Each public function allows one result, and leaves one content in what it is lent, by its contract as the source states it (`Reads.Post`).
+-- Assumes nothing.
+use mathlib.Core.Path.{_∙_, ap, sym}
+use denote.Ref.{now}
+use Rattle.checks.specs.OneResult.{OneOutcome, OneResult}
+use Rattle.serial.specs.declared.frame.Written.{Written}
+use Rattle.serial.specs.declared.taker.Taken.{Taken}
+use Rattle.serial.specs.Taker.{copiedOf}
+use Rattle.serial.specs.Writer.{outputOf}
+use Rattle.serial.proofs.frame.frame_to_serial.Kinds as frame-to-serial
+use Rattle.serial.proofs.frame.frame_to_serial.Reads as frame-to-serial-reads
+use Rattle.serial.proofs.receiver.Receiver.fresh.Kinds as fresh
+use Rattle.serial.proofs.receiver.Receiver.fresh.Reads as fresh-reads
+use Rattle.serial.proofs.receiver.Receiver.consistent.Kinds as consistent
+use Rattle.serial.proofs.receiver.Receiver.consistent.Reads as consistent-reads
+use Rattle.serial.proofs.receiver.Receiver.step.Kinds as step
+use Rattle.serial.proofs.receiver.Receiver.step.Reads as step-reads
+use Rattle.serial.proofs.receiver.Receiver.take.Kinds as take
+use Rattle.serial.proofs.receiver.Receiver.take.Reads as take-reads
+
+pub fresh-one : OneResult 0 fresh.ps fresh.r fresh-reads.Post
+fresh-one κs a x y e f p q = p ∙ sym q
+
+pub consistent-one : OneResult 0 consistent.ps consistent.r consistent-reads.Post
+consistent-one κs a x y e f p q = p ∙ sym q
+
+pub step-one : OneResult 0 step.ps step.r step-reads.Post
+step-one κs a x y e f p q = p .0 ∙ sym (q .0)
+
+-- the output is the last parameter
+pub frame-to-serial-one : OneOutcome 2 frame-to-serial.ps frame-to-serial.r (λ κs e. now (e .1 .0)) frame-to-serial-reads.Post
+frame-to-serial-one κs a x y e f p q =
+    let same = p .0 ∙ sym (q .0) in
+    (same, p .1 .0 ∙ ap (λ (r : Written). outputOf r (now (a .0)) (now (a .1 .0))) same ∙ sym (q .1 .0))
+
+pub take-one : OneOutcome 2 take.ps take.r (λ κs e. now (e .1 .1 .1 .0)) take-reads.Post
+take-one κs a x y e f p q =
+    let same = p .0 ∙ sym (q .0) in
+    (same, p .1 .0 ∙ ap (λ (t : Taken). copiedOf (t .reason) (t .state) (now (a .1 .1 .1 .0))) same ∙ sym (q .1 .0))

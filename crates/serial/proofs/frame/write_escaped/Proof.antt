@@ -1,0 +1,110 @@
+-- `serial::frame::write_escaped` meets its contract. The loop's invariant: to write what is left of the packet, escaped, from the place on
+-- makes the output that is promised. A turn writes the first byte of what is left. Assumes nothing.
+use Prim.Native.Nat.{ℕ, _+_, _-_, _≤_, _<_}
+use mathlib.Core.Path.{_≡_, _∙_, ap, ap₂, refl, sym}
+use mathlib.Core.List.{List, [], _++_}
+use native.Mathlib.Numerals.{add-one}
+use native.Mathlib.Omega.{arith}
+use lib.ListN.{length, drop, getD, drop-of-length-le, length-append}
+use lib.Seq.{drop-cons}
+use borrow.Author.Needs.{needs}
+use Rattle.serial.specs.Frame.{escaped, escapedAll}
+use Rattle.serial.proofs.AtStart.{putAt, put-none, put-put, length-put}
+use Rattle.serial.proofs.frame.write_escaped.Statement.{statement}
+use Rattle.serial.proofs.frame.write_escaped.Tie as tie
+
+-- what is left from i on, escaped: a byte's part and the rest
+escaped-next : (packet : List ℕ) (i : ℕ) → i < length packet
+    → escapedAll (drop i packet) ≡ escaped (getD packet i 0) ++ escapedAll (drop (i + 1) packet)
+unfolding escapedAll
+escaped-next packet i h = rw (add-one, drop-cons packet i 0)
+
+escaped-end : (packet : List ℕ) (i : ℕ) → length packet ≤ i → escapedAll (drop i packet) ≡ []
+unfolding escapedAll
+escaped-end packet i h = ap escapedAll (drop-of-length-le packet {i = i} h)
+
+-- the room that the byte and the rest take
+room-next : (packet : List ℕ) (i : ℕ) → i < length packet
+    → length (escapedAll (drop i packet)) ≡ length (escaped (getD packet i 0)) + length (escapedAll (drop (i + 1) packet))
+room-next packet i h =
+    ap length (escaped-next packet i h) ∙ length-append (escaped (getD packet i 0)) (escapedAll (drop (i + 1) packet))
+
+-- a turn: the byte is put, and then the rest
+put-turn : (packet : List ℕ) (i place next : ℕ) (out made : List ℕ) → i < length packet
+    → next ≡ place + length (escaped (getD packet i 0)) → next ≤ length out → made ≡ putAt place (escaped (getD packet i 0)) out
+    → putAt next (escapedAll (drop (i + 1) packet)) made ≡ putAt place (escapedAll (drop i packet)) out
+put-turn packet i place next out made h en room em =
+    let now = escaped (getD packet i 0) in
+    let rest = escapedAll (drop (i + 1) packet) in
+    ap₂ (λ (n : ℕ) (xs : List ℕ). putAt n rest xs) en em
+    ∙ put-put place now rest out (omega arith)
+    ∙ ap (λ (ys : List ℕ). putAt place ys out) (sym (escaped-next packet i h))
+
+abbrev Inv-loop : tie.InvT-loop
+Inv-loop packet out₀ start place₀ i₀ out place i =
+    (i ≤ length packet)
+    × (length out ≡ length out₀)
+    × (place + length (escapedAll (drop i packet)) ≡ start + length (escapedAll packet))
+    × (putAt place (escapedAll (drop i packet)) out ≡ putAt start (escapedAll packet) out₀)
+
+abbrev μ-loop : tie.MeasureT-loop
+μ-loop packet out₀ start place₀ i₀ out place i = length packet - i
+
+loop-holds : tie.Need-loop-holds Inv-loop μ-loop
+loop-holds c = (search needs, refl, refl, refl)
+
+shared-slice-read-write-byte : tie.Need-shared-slice-read-write-byte Inv-loop μ-loop
+shared-slice-read-write-byte c = omega arith
+
+write-byte-requires : tie.Need-write-byte-requires Inv-loop μ-loop
+write-byte-requires c κs =
+    let l = c .before .before .before in
+    let packet = l .before .before .before .args .packet .now in
+    omega (arith, room-next packet (l .loop .i) (omega arith), l .loop .inv)
+
+add-i : tie.Need-add-i Inv-loop μ-loop
+add-i c = search needs
+
+loop-less : tie.Need-loop-less Inv-loop μ-loop
+loop-less c = omega arith
+
+loop-again : tie.Need-loop-again Inv-loop μ-loop
+loop-again c =
+    let w = c .before .before in
+    let l = w .before .before .before .before in
+    let packet = l .before .before .before .args .packet .now in
+    let r = room-next packet (l .loop .i) (omega arith) in
+    let e = w .write-byte .ensures in (
+      search needs,
+      ap length (e .1) ∙ length-put (l .loop .place) (escaped (getD packet (l .loop .i) 0)) (l .loop .out) (omega arith) ∙ l .loop .inv .1,
+      omega arith,
+      put-turn packet (l .loop .i) (l .loop .place) _ (l .loop .out) _ (omega arith) (e .0) (omega arith) (e .1) ∙ l .loop .inv .3,
+    )
+
+same-length : tie.Need-same-length Inv-loop μ-loop
+same-length c = c .before .loop .inv .1
+
+returns : tie.Need-returns Inv-loop μ-loop
+returns c =
+    let l = c .before in
+    let packet = l .before .before .before .args .packet .now in
+    let e = escaped-end packet (l .loop .i) (omega arith) in
+    let place = l .loop .place in
+    let out = l .loop .out in
+    let kept = put-none place out (omega (arith, ap length e)) in
+    (omega (arith, ap length e, l .loop .inv .2), sym (ap (λ (ys : List ℕ). putAt place ys out) e ∙ kept) ∙ l .loop .inv .3)
+
+pub write-escaped-spec : {M : Type 1} → statement M
+write-escaped-spec =
+    tie.close
+    (tie.spec
+    Inv-loop
+    μ-loop
+    loop-holds
+    shared-slice-read-write-byte
+    write-byte-requires
+    add-i
+    loop-less
+    loop-again
+    same-length
+    returns)

@@ -1,0 +1,42 @@
+-- Streams whose outcome is computed, step by step, from the definitions: an instance of demand 3, and streams that are nearly frames. They are what
+-- an error in a row of the table breaks first. The proofs: `proofs/Computed.antt`. Assumes nothing.
+use Prim.Native.Nat.{ℕ, _/_, _%_}
+use mathlib.Core.Path.{_≡_}
+use mathlib.Core.List.{List, [], _∷_, _++_}
+use lib.ListN.{replicate}
+use Rattle.checks.specs.FrameCheck.{frameCheck}
+use Rattle.serial.specs.Demand3.{flags, placed}
+use Rattle.serial.specs.Frame.{checkBytes, covered, escape, flag, frames, revision}
+use Rattle.serial.specs.Receiver.{freshOf}
+use Rattle.serial.specs.Run.{outsOf, runOf}
+
+-- a packet of five bytes that ends with b
+abbrev pub ending : ℕ → List ℕ
+ending b = 0x01 ∷ 0x0a ∷ 0x09 ∷ 0xc8 ∷ b ∷ []
+
+-- ---- frames that are heard
+
+-- case A's packet, with a flag to escape; one whose check is cd7e, so that a check byte is a flag; one of 126 bytes, so that the count is a flag
+abbrev pub three : List (List ℕ)
+three = ending flag ∷ (0x00 ∷ 0x00 ∷ 0x00 ∷ 0x00 ∷ 0x74 ∷ []) ∷ (0x01 ∷ replicate 125 0x00) ∷ []
+
+-- demand 3 at these packets and no history
+abbrev pub ThreeHeard : Type 0
+ThreeHeard = outsOf 0 (runOf freshOf (flags 3)) (frames three) ≡ placed 0 three
+
+-- ---- frames that are nearly so
+
+-- what stands between two flags for a packet of five bytes
+abbrev pub between : List ℕ → List ℕ → List ℕ
+between line checks = flag ∷ revision ∷ 0x05 ∷ (line ++ (checks ++ (flag ∷ [])))
+
+-- the check bytes, the low one first
+abbrev pub swapped : List ℕ → List ℕ
+swapped packet = frameCheck (covered packet) % 256 ∷ frameCheck (covered packet) / 256 ∷ []
+
+-- 7d 41 is read neither as 41 nor, with a bit flipped, as 61; nor are other check bytes taken, nor the right ones in the other order
+abbrev pub NearMisses : Type 0
+NearMisses = (outsOf 0 freshOf (between (0x01 ∷ 0x0a ∷ 0x09 ∷ 0xc8 ∷ escape ∷ 0x41 ∷ []) (checkBytes (ending 0x41))) ≡ [])
+    × (outsOf 0 freshOf (between (0x01 ∷ 0x0a ∷ 0x09 ∷ 0xc8 ∷ escape ∷ 0x41 ∷ []) (checkBytes (ending 0x61))) ≡ [])
+    × (outsOf 0 freshOf (between (ending 0x00) (0x00 ∷ 0x00 ∷ [])) ≡ [])
+    × (outsOf 0 freshOf (between (ending 0x00) (swapped (ending 0x00))) ≡ [])

@@ -1,0 +1,122 @@
+-- The serial receiver: document 01's table, row by row, and what makes a state consistent. The state is the code's own struct.
+-- Assumes nothing.
+use Prim.Native.Nat.{ℕ, _+_, _*_}
+use mathlib.Core.Bool.{Bool, true, cond, _&&_, _||_}
+use lib.Dec.{eqb, leb}
+use lib.ListN.{getD, set, replicate, take}
+use Rattle.checks.specs.FrameCheck.{frameCheck}
+use Rattle.serial.specs.declared.receiver.Position.{Position}
+use Rattle.serial.specs.declared.receiver.Position.the-variants.{FrameSearch, SerialRevision, ByteCount, Data, DataEscaped, Check, FrameEnd}
+use Rattle.serial.specs.declared.receiver.Receiver.{Receiver}
+use Rattle.serial.specs.declared.receiver.Outcome.the-variants.{Nothing, Packet, Inconsistent}
+use Rattle.serial.specs.declared.receiver.Stepped.{Stepped}
+use Rattle.serial.specs.Frame.{flag, escape, flagEscaped, escapeEscaped, revision}
+
+-- ---- states
+
+-- all zero, in FrameSearch
+abbrev pub freshOf : Receiver
+freshOf = record { position = FrameSearch; count = 0; len = 0; stored = replicate 259 0 }
+
+-- the same content at another position
+abbrev pub moveTo : Position → Receiver → Receiver
+moveTo p s = record { position = p; count = s .count; len = s .len; stored = s .stored }
+
+-- one byte more is stored
+abbrev pub store : ℕ → Receiver → Receiver
+store b s = record { position = s .position; count = s .count; len = s .len + 1; stored = set (s .stored) (s .len) b }
+
+-- a packet's byte is stored; Check once the count is reached
+abbrev pub storeData : ℕ → Receiver → Receiver
+storeData b s = moveTo (cond (eqb (s .len + 1) (s .count + 2)) Check Data) (store b s)
+
+-- ---- the table: the state that a byte leads to from each position
+
+abbrev pub frameSearchRow : ℕ → Receiver → Receiver
+frameSearchRow b s = moveTo (cond (eqb b flag) SerialRevision FrameSearch) s
+
+abbrev pub serialRevisionRow : ℕ → Receiver → Receiver
+serialRevisionRow b s =
+    record {
+      position = cond (eqb b revision) ByteCount (cond (eqb b flag) SerialRevision FrameSearch);
+      count = 0;
+      len = 1;
+      stored = set (s .stored) 0 b;
+    }
+
+abbrev pub byteCountRow : ℕ → Receiver → Receiver
+byteCountRow b s =
+    cond (eqb b 0)
+    (record { position = FrameSearch; count = 0; len = s .len; stored = s .stored })
+    (record { position = Data; count = b; len = s .len + 1; stored = set (s .stored) (s .len) b })
+
+abbrev pub dataRow : ℕ → Receiver → Receiver
+dataRow b s =
+    cond (eqb b flag) (moveTo SerialRevision s) (cond (eqb b escape) (moveTo DataEscaped s) (storeData b s))
+
+abbrev pub dataEscapedRow : ℕ → Receiver → Receiver
+dataEscapedRow b s =
+    cond (eqb b flagEscaped) (storeData flag s)
+    (cond (eqb b escapeEscaped) (storeData escape s) (moveTo FrameSearch s))
+
+abbrev pub checkRow : ℕ → Receiver → Receiver
+checkRow b s = moveTo (cond (eqb (s .len + 1) (s .count + 4)) FrameEnd Check) (store b s)
+
+abbrev pub frameEndRow : ℕ → Receiver → Receiver
+frameEndRow b s = moveTo (cond (eqb b flag) FrameSearch SerialRevision) s
+
+-- ---- what is handed out
+
+-- the two stored check bytes, the high one first, are the check of the revision, the count and the packet before them
+unfoldable pub agreesOf : Receiver → Bool
+agreesOf s =
+    eqb (frameCheck (take (s .count + 2) (s .stored))) (getD (s .stored) (s .count + 2) 0 * 256 + getD (s .stored) (s .count + 3) 0)
+
+-- nothing is handed out
+abbrev pub quiet : Receiver → Stepped
+quiet s = record { outcome = Nothing; state = s }
+
+-- a flag in FrameEnd hands out the packet where the check agrees
+abbrev pub handsOut : ℕ → Receiver → Bool
+handsOut b s = eqb b flag && agreesOf s
+
+abbrev pub closing : ℕ → Receiver → Stepped
+closing b s =
+    cond (handsOut b s) (record { outcome = Packet (s .count); state = frameEndRow b s }) (quiet (frameEndRow b s))
+
+-- the table's row for a position
+unfoldable pub rowOf : Position → ℕ → Receiver → Stepped
+rowOf FrameSearch b s = quiet (frameSearchRow b s)
+rowOf SerialRevision b s = quiet (serialRevisionRow b s)
+rowOf ByteCount b s = quiet (byteCountRow b s)
+rowOf Data b s = quiet (dataRow b s)
+rowOf DataEscaped b s = quiet (dataEscapedRow b s)
+rowOf Check b s = quiet (checkRow b s)
+rowOf FrameEnd b s = closing b s
+
+-- ---- consistent
+
+-- from Data on: a count, the stored revision and the stored count
+abbrev pub counted : Receiver → Bool
+counted s = leb 1 (s .count) && (eqb (getD (s .stored) 0 0) revision && eqb (getD (s .stored) 1 0) (s .count))
+
+-- within the packet: the stored length lies from 2 to count + 1
+abbrev pub inPacket : Receiver → Bool
+inPacket s = leb 2 (s .len) && leb (s .len) (s .count + 1)
+
+unfoldable pub fitsAt : Position → Receiver → Bool
+fitsAt FrameSearch s = true
+fitsAt SerialRevision s = true
+fitsAt ByteCount s = eqb (s .len) 1 && eqb (getD (s .stored) 0 0) revision
+fitsAt Data s = counted s && inPacket s
+fitsAt DataEscaped s = counted s && inPacket s
+fitsAt Check s = counted s && (eqb (s .len) (s .count + 2) || eqb (s .len) (s .count + 3))
+fitsAt FrameEnd s = counted s && eqb (s .len) (s .count + 4)
+
+unfoldable pub consistentOf : Receiver → Bool
+consistentOf s = leb (s .len) 259 && (leb (s .count) 255 && fitsAt (s .position) s)
+
+-- ---- a step: by the table where the state is consistent; else number 9 and a fresh state, whatever the byte
+
+unfoldable pub stepOf : ℕ → Receiver → Stepped
+stepOf b s = cond (consistentOf s) (rowOf (s .position) b s) (record { outcome = Inconsistent; state = freshOf })
