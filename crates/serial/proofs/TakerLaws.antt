@@ -22,7 +22,7 @@ use Rattle.serial.specs.declared.taker.Taken.{Taken}
 use Rattle.serial.specs.Answers.{reasonAnswer, takerNumber}
 use Rattle.serial.specs.Consistency.{Consistent}
 use Rattle.serial.specs.Receiver.{consistentOf, freshOf, handsOut, rowOf, stepOf}
-use Rattle.serial.specs.Taker.{Fair, afterStep, stop, takeFrom, takenOf}
+use Rattle.serial.specs.Taker.{Fair, afterStep, copiedOf, stop, takeFrom, takenOf}
 use Rattle.serial.proofs.Consistent.{by-cond, facts, row-of}
 use Rattle.serial.proofs.Keeps.{keeps}
 
@@ -99,23 +99,34 @@ fair-number InconsistentTaken f = absurd f
 pub fair-taken : (t u v : Taken) → t ≡ u → u ≡ v → Fair (u .reason) → (t ≡ v) × Fair (t .reason)
 fair-taken t u v e f h = (e ∙ f, subst (λ (w : Taken). Fair (w .reason)) (sym e) h)
 
--- what the taker says, and its number
-module _ (input : List ℕ) (allowance room : ℕ) (s : Receiver) (t : Taken) where
-  -- of bytes taken
-  pub taken-said : consistentOf s ≡ true → 255 ≤ room → t ≡ takeFrom input allowance s 0 → Fair (t .reason)
-      → (t ≡ takenOf input allowance room s) × (reasonAnswer (t .reason) .number ≡ takerNumber s room)
+-- ---- what the taker says
+
+-- its result, the output that it leaves, and its number
+abbrev Said : List ℕ → ℕ → Receiver → List ℕ → Taken → List ℕ → Type 0
+Said input allowance s out t left =
+    (t ≡ takenOf input allowance (length out) s)
+    × ((left ≡ copiedOf (t .reason) (t .state) out) × (reasonAnswer (t .reason) .number ≡ takerNumber s (length out)))
+
+module _ (input : List ℕ) (allowance : ℕ) (s : Receiver) (out : List ℕ) (t : Taken) where
+  -- of bytes taken, for this reason
+  pub taken-said : (r : Reason) (left : List ℕ) → consistentOf s ≡ true → 255 ≤ length out
+      → (t ≡ takeFrom input allowance s 0) × Fair (t .reason) → t .reason ≡ r → left ≡ copiedOf r (t .state) out → Said input allowance s out t left
   unfolding takenOf
-  taken-said c k e f = (simp (c, le-ltb room 255 k) e, simp (c, le-ltb room 255 k) (fair-number (t .reason) f))
+  taken-said r left c room e f g = (
+    simp (c, le-ltb (length out) 255 room) (e .0),
+    (g ∙ ap (λ (q : Reason). copiedOf q (t .state) out) (sym f), simp (c, le-ltb (length out) 255 room) (fair-number (t .reason) (e .1))),
+  )
 
   -- too little room
-  pub short-said : consistentOf s ≡ true → room < 255 → t ≡ stop ShortOutput 0 s
-      → (t ≡ takenOf input allowance room s) × (reasonAnswer (t .reason) .number ≡ takerNumber s room)
-  unfolding takenOf
-  short-said c k e =
-      (simp (c, lt-ltb room 255 k) e, simp (c, lt-ltb room 255 k) (ap (λ (u : Taken). reasonAnswer (u .reason) .number) e))
+  pub short-said : consistentOf s ≡ true → length out < 255 → t ≡ stop ShortOutput 0 s → Said input allowance s out t out
+  unfolding takenOf copiedOf
+  short-said c room e = (
+    simp (c, lt-ltb (length out) 255 room) e,
+    (ap (λ (u : Taken). copiedOf (u .reason) (u .state) out) (sym e), simp (c, lt-ltb (length out) 255 room) (ap (λ (u : Taken). reasonAnswer (u .reason) .number) e)),
+  )
 
   -- an inconsistent state
-  pub inconsistent-said : consistentOf s ≡ false → t ≡ stop InconsistentTaken 0 freshOf
-      → (t ≡ takenOf input allowance room s) × (reasonAnswer (t .reason) .number ≡ takerNumber s room)
-  unfolding takenOf
-  inconsistent-said c e = (simp c e, simp c (ap (λ (u : Taken). reasonAnswer (u .reason) .number) e))
+  pub inconsistent-said : consistentOf s ≡ false → t ≡ stop InconsistentTaken 0 freshOf → Said input allowance s out t out
+  unfolding takenOf copiedOf
+  inconsistent-said c e =
+      (simp c e, (ap (λ (u : Taken). copiedOf (u .reason) (u .state) out) (sym e), simp c (ap (λ (u : Taken). reasonAnswer (u .reason) .number) e)))

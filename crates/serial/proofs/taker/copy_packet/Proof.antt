@@ -11,8 +11,6 @@ use Rattle.serial.specs.Writer.{atStart}
 use Rattle.serial.proofs.AtStart.{start-copied}
 use Rattle.serial.proofs.taker.copy_packet.Statement.{statement}
 use Rattle.serial.proofs.taker.copy_packet.Tie as tie
-use Rattle.serial.proofs.taker.copy_packet.Reads as reads
-use Rattle.serial.proofs.taker.copy_packet.Lts as lts
 
 -- a turn, from the output `now` to the next one
 turn : (stored out now : List ℕ) (i : ℕ) → i + 2 < length stored → i < length out → now ≡ atStart (take i (drop 2 stored)) out
@@ -29,42 +27,33 @@ Inv-loop stored n out₀ i₀ out i = (out ≡ atStart (take i (drop 2 stored)) 
 abbrev μ-loop : tie.MeasureT-loop
 μ-loop stored n out₀ i₀ out i = n - i
 
--- src/taker.rt:35:5
 loop-holds : tie.Need-loop-holds Inv-loop μ-loop
 loop-holds c = search needs
 
--- src/taker.rt:36:25
 add-out : tie.Need-add-out Inv-loop μ-loop
 add-out c = search needs
 
--- src/taker.rt:36:18
 shared-slice-read-out : tie.Need-shared-slice-read-out Inv-loop μ-loop
 shared-slice-read-out c = search needs
 
--- src/taker.rt:36:9
 slice-write-out : tie.Need-slice-write-out Inv-loop μ-loop
 slice-write-out c = search needs
 
--- src/taker.rt:37:9
 add-i : tie.Need-add-i Inv-loop μ-loop
 add-i c = search needs
 
--- src/taker.rt:35:5
 loop-less : tie.Need-loop-less Inv-loop μ-loop
 loop-less c = search needs
 
--- src/taker.rt:35:5
 loop-again : tie.Need-loop-again Inv-loop μ-loop
 loop-again c =
     let l = c .before .before in
     let a = l .before .args in
     (turn (a .stored .now) (a .out .now) _ (l .loop .i) (omega arith) (omega arith) (l .loop .inv .0), search needs, simp length-set (omega arith))
 
--- src/taker.rt:30:1
 same-length : tie.Need-same-length Inv-loop μ-loop
 same-length c = search needs
 
--- src/taker.rt:30:1
 returns : tie.Need-returns Inv-loop μ-loop
 returns c =
     let l = c .before in

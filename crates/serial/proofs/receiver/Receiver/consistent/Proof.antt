@@ -1,123 +1,95 @@
-use Rattle.serial.proofs.Consistent.{at-position}
-use Rattle.serial.specs.Receiver.{consistentOf, fitsAt}
+-- `Receiver::consistent` meets its contract: its tests are the definition's, bounds first and then by position. Assumes nothing.
 use borrow.Author.Tests.{le-leb, lt-leb}
-use Rattle.serial.specs.declared.receiver.Position.the-variants.{FrameSearch, SerialRevision, ByteCount, Data, DataEscaped, Check, FrameEnd}
 use borrow.Author.Needs.{needs}
+use Rattle.serial.specs.declared.receiver.Position.the-variants.{FrameSearch, SerialRevision, ByteCount, Data, DataEscaped, Check, FrameEnd}
+use Rattle.serial.specs.Receiver.{consistentOf, fitsAt}
+use Rattle.serial.proofs.Consistent.{at-position}
 use Rattle.serial.proofs.receiver.Receiver.consistent.Statement.{statement}
 use Rattle.serial.proofs.receiver.Receiver.consistent.Tie as tie
-use Rattle.serial.proofs.receiver.Receiver.consistent.Reads as reads
-use Rattle.serial.proofs.receiver.Receiver.consistent.Lts as lts
-use Rattle.serial.proofs.receiver.Receiver.counted.Reads as counted-reads
 
--- src/receiver.rt:66:13
 returns : tie.Need-returns
 unfolding consistentOf
 returns c = simp (lt-leb _ _ (c .if1 .taken))
 
--- src/receiver.rt:69:13
 returns-2 : tie.Need-returns-2
 unfolding consistentOf
 returns-2 c = simp (le-leb _ _ (c .before .if1 .left), lt-leb _ _ (c .if2 .taken))
 
--- src/receiver.rt:72:38
 enum-told : tie.Need-enum-told
 enum-told c = search needs
 
--- src/receiver.rt:73:41
 enum-told-2 : tie.Need-enum-told-2
 enum-told-2 c = search needs
 
--- src/receiver.rt:74:37
 enum-told-3 : tie.Need-enum-told-3
 enum-told-3 c = search needs
 
--- src/receiver.rt:74:50
 element-copy-out-result : tie.Need-element-copy-out-result
 element-copy-out-result c = search needs
 
--- src/receiver.rt:75:31
 enum-told-4 : tie.Need-enum-told-4
 enum-told-4 c = search needs
 
--- src/receiver.rt:75:31
 counted-requires : tie.Need-counted-requires
 counted-requires c κs = search needs
 
--- src/receiver.rt:75:70
 add-result : tie.Need-add-result
 add-result c = search needs
 
--- src/receiver.rt:76:38
 enum-told-5 : tie.Need-enum-told-5
 enum-told-5 c = search needs
 
--- src/receiver.rt:76:38
 counted-requires-2 : tie.Need-counted-requires-2
 counted-requires-2 c κs = search needs
 
--- src/receiver.rt:76:77
 add-result-2 : tie.Need-add-result-2
 add-result-2 c = search needs
 
--- src/receiver.rt:77:32
 enum-told-6 : tie.Need-enum-told-6
 enum-told-6 c = search needs
 
--- src/receiver.rt:77:32
 counted-requires-3 : tie.Need-counted-requires-3
 counted-requires-3 c κs = search needs
 
--- src/receiver.rt:77:58
 add-result-3 : tie.Need-add-result-3
 add-result-3 c = search needs
 
--- src/receiver.rt:77:79
 add-result-4 : tie.Need-add-result-4
 add-result-4 c = search needs
 
--- src/receiver.rt:78:35
 enum-told-7 : tie.Need-enum-told-7
 enum-told-7 c = search needs
 
--- src/receiver.rt:78:35
 counted-requires-4 : tie.Need-counted-requires-4
 counted-requires-4 c κs = search needs
 
--- src/receiver.rt:78:60
 add-result-5 : tie.Need-add-result-5
 add-result-5 c = search needs
 
--- src/receiver.rt:59:5
 returns-3 : tie.Need-returns-3
 unfolding fitsAt
 returns-3 c = at-position (c .before .before .before .before .args .t1) FrameSearch (c .before .before .before .if1 .left) (c .before .before .if2 .left) (c .enum-told .given .1)
 
--- src/receiver.rt:59:5
 returns-4 : tie.Need-returns-4
 unfolding fitsAt
 returns-4 c = at-position (c .before .before .before .before .args .t1) SerialRevision (c .before .before .before .if1 .left) (c .before .before .if2 .left) (c .enum-told2 .given .1)
 
--- src/receiver.rt:59:5
 returns-5 : tie.Need-returns-5
 unfolding fitsAt
 returns-5 c = at-position (c .before .before .before .before .before .args .t1) ByteCount (c .before .before .before .before .if1 .left) (c .before .before .before .if2 .left) (c .before .enum-told3 .given .1)
 
--- src/receiver.rt:59:5
 returns-6 : tie.Need-returns-6
 unfolding fitsAt
 returns-6 c = simp (c .counted .ensures) (at-position (c .before .before .before .before .before .args .t1) Data (c .before .before .before .before .if1 .left) (c .before .before .before .if2 .left) (c .before .enum-told4 .given .1))
 
--- src/receiver.rt:59:5
 returns-7 : tie.Need-returns-7
 unfolding fitsAt
 returns-7 c = simp (c .counted2 .ensures) (at-position (c .before .before .before .before .before .args .t1) DataEscaped (c .before .before .before .before .if1 .left) (c .before .before .before .if2 .left) (c .before .enum-told5 .given .1))
 
--- src/receiver.rt:59:5
 returns-8 : tie.Need-returns-8
 unfolding fitsAt
 returns-8 c = simp (c .counted3 .ensures) (at-position (c .before .before .before .before .before .args .t1) Check (c .before .before .before .before .if1 .left) (c .before .before .before .if2 .left) (c .before .enum-told6 .given .1))
 
--- src/receiver.rt:59:5
 returns-9 : tie.Need-returns-9
 unfolding fitsAt
 returns-9 c = simp (c .counted4 .ensures) (at-position (c .before .before .before .before .before .args .t1) FrameEnd (c .before .before .before .before .if1 .left) (c .before .before .before .if2 .left) (c .before .enum-told7 .given .1))

@@ -1,4 +1,3 @@
-use Rattle.serial.specs.Receiver.{consistentOf}
 -- `take_bytes` meets its contract. The loop's invariant: taking on from here is taking from the start, and the state stays consistent.
 -- Assumes nothing.
 use Prim.Native.Nat.{ℕ, _-_, _≤_, _<_}
@@ -12,15 +11,12 @@ use Rattle.serial.specs.declared.receiver.Outcome.the-variants.{Nothing,
 use Rattle.serial.specs.declared.receiver.Stepped.{Stepped}
 use Rattle.serial.specs.Core.{held, heldStep}
 use Rattle.serial.specs.Consistency.{Consistent}
+use Rattle.serial.specs.Receiver.{consistentOf}
 use Rattle.serial.specs.Taker.{Fair, takeFrom}
 use Rattle.serial.proofs.Keeps.{keeps}
 use Rattle.serial.proofs.TakerLaws.{fair, fair-taken, taken-ended, taken-next, taken-spent}
 use Rattle.serial.proofs.receiver.Receiver.take_bytes.Statement.{statement}
 use Rattle.serial.proofs.receiver.Receiver.take_bytes.Tie as tie
-use Rattle.serial.proofs.receiver.Receiver.take_bytes.Reads as reads
-use Rattle.serial.proofs.receiver.Receiver.take_bytes.Lts as lts
-use Rattle.serial.proofs.receiver.Receiver.head.Reads as head-reads
-use Rattle.serial.proofs.rows.Head.advance.Reads as advance-reads
 
 abbrev Inv-loop : tie.InvT-loop
 Inv-loop input allowance stored₀ head₀ i₀ stored head i =
@@ -31,11 +27,9 @@ Inv-loop input allowance stored₀ head₀ i₀ stored head i =
 abbrev μ-loop : tie.MeasureT-loop
 μ-loop input allowance stored₀ head₀ i₀ stored head i = length input - i
 
--- src/taker.rt:48:13
 head-requires : tie.Need-head-requires Inv-loop μ-loop
 head-requires c κs = search needs
 
--- src/taker.rt:50:13
 loop-holds : tie.Need-loop-holds Inv-loop μ-loop
 loop-holds c =
     let a = c .before .before .before in
@@ -48,30 +42,24 @@ loop-holds c =
       fair (a .args .input .now) (a .args .allowance) s 0 consistent (λ i. c .before .before .shared-slice-known .given i .fits),
     )
 
--- src/taker.rt:57:38
 slice-aggregate-advance : tie.Need-slice-aggregate-advance Inv-loop μ-loop
 slice-aggregate-advance c = sym (c .before .before .before .loop .inv .3 .sized)
 
--- src/taker.rt:57:51
 shared-slice-read-advance : tie.Need-shared-slice-read-advance Inv-loop μ-loop
 shared-slice-read-advance c = search needs
 
--- src/taker.rt:57:17
 advance-requires : tie.Need-advance-requires Inv-loop μ-loop
 advance-requires c κs = (c .before .before .before .before .loop .inv .3 .sized, c .before .before .before .before .loop .inv .3 .fits)
 
--- src/taker.rt:59:13
 add-i : tie.Need-add-i Inv-loop μ-loop
 add-i c = search needs
 
 enum-told : tie.Need-enum-told Inv-loop μ-loop
 enum-told c = search needs
 
--- src/taker.rt:50:13
 loop-less : tie.Need-loop-less Inv-loop μ-loop
 loop-less c = search needs
 
--- src/taker.rt:50:13
 loop-again : tie.Need-loop-again Inv-loop μ-loop
 loop-again c =
     let l = c .before .before .before .before .before .before .before .before .before in
@@ -88,15 +76,12 @@ loop-again c =
       l .loop .inv .4,
     )
 
--- src/taker.rt:63:33
 enum-known-outcome : tie.Need-enum-known-outcome Inv-loop μ-loop
 enum-known-outcome c = search needs
 
--- src/taker.rt:64:48
 enum-told-2 : tie.Need-enum-told-2 Inv-loop μ-loop
 enum-told-2 c = search needs
 
--- src/taker.rt:43:5
 returns : tie.Need-returns Inv-loop μ-loop
 returns c =
     let l = c .before in
@@ -105,7 +90,6 @@ returns c =
     (taken-ended (a .input .now) (a .allowance) (l .loop .i) (held (l .loop .head) (l .loop .stored)) (omega arith)
     ∙ l .loop .inv .0) (ap (λ (s : Receiver). takeFrom (a .input .now) (a .allowance) s 0) (c .before .before .head .ensures)) (l .loop .inv .4)
 
--- src/taker.rt:43:5
 returns-2 : tie.Need-returns-2 Inv-loop μ-loop
 returns-2 c =
     let l = c .before .before in
@@ -114,7 +98,6 @@ returns-2 c =
     (taken-spent (a .input .now) (a .allowance) (l .loop .i) (held (l .loop .head) (l .loop .stored)) (omega arith) (omega arith)
     ∙ l .loop .inv .0) (ap (λ (s : Receiver). takeFrom (a .input .now) (a .allowance) s 0) (c .before .before .before .head .ensures)) (l .loop .inv .4)
 
--- src/taker.rt:43:5
 returns-3 : tie.Need-returns-3 Inv-loop μ-loop
 returns-3 c =
     let l = c .before .before .before .before .before .before .before .before .before .before in
@@ -126,7 +109,6 @@ returns-3 c =
     (taken-next (a .input .now) (a .allowance) (l .loop .i) (held (l .loop .head) (l .loop .stored)) (heldStep (r .result) (r .last .1 .0)) _ here allowed (r .ensures) (c .before .outcome .given .1)
     ∙ l .loop .inv .0) (ap (λ (s : Receiver). takeFrom (a .input .now) (a .allowance) s 0) (c .before .before .before .before .before .before .before .before .before .before .before .head .ensures)) (l .loop .inv .4)
 
--- src/taker.rt:43:5
 returns-4 : tie.Need-returns-4 Inv-loop μ-loop
 returns-4 c =
     let l = c .before .before .before .before .before .before .before .before .before in

@@ -1,53 +1,37 @@
+-- `Head::advance` makes a step: a consistent state has the room that each row asks for, and its step is the row of its position.
+-- Assumes nothing.
+use mathlib.Core.Path.{_≡_, _∙_}
+use native.Mathlib.Omega.{arith}
+use lib.ListN.{length}
+use borrow.Author.Needs.{needs}
+use Rattle.serial.specs.declared.receiver.Position.the-variants.{FrameSearch, SerialRevision, ByteCount, Data, DataEscaped, Check, FrameEnd}
+use Rattle.serial.specs.Receiver.{rowOf}
 use Rattle.serial.proofs.Core.{still}
 use Rattle.serial.proofs.Consistent.{facts, here-at, row-at}
-use Rattle.serial.specs.Receiver.{rowOf}
-use lib.ListN.{length}
-use native.Mathlib.Omega.{arith}
-use mathlib.Core.Path.{_≡_, _∙_}
-use Rattle.serial.specs.declared.receiver.Position.the-variants.{FrameSearch, SerialRevision, ByteCount, Data, DataEscaped, Check, FrameEnd}
-use borrow.Author.Needs.{needs}
 use Rattle.serial.proofs.rows.Head.advance.Statement.{statement}
 use Rattle.serial.proofs.rows.Head.advance.Tie as tie
-use Rattle.serial.proofs.rows.Head.advance.Reads as reads
-use Rattle.serial.proofs.rows.Head.advance.Lts as lts
-use Rattle.serial.proofs.rows.Head.byte_count.Reads as byte-count-reads
-use Rattle.serial.proofs.rows.Head.check.Reads as check-reads
-use Rattle.serial.proofs.rows.Head.data.Reads as data-reads
-use Rattle.serial.proofs.rows.Head.data_escaped.Reads as data-escaped-reads
-use Rattle.serial.proofs.rows.Head.frame_end.Reads as frame-end-reads
-use Rattle.serial.proofs.rows.Head.frame_search.Reads as frame-search-reads
-use Rattle.serial.proofs.rows.Head.serial_revision.Reads as serial-revision-reads
-use Rattle.serial.proofs.rows.nothing.Reads as nothing-reads
 
--- src/rows.rt:205:46
 enum-told : tie.Need-enum-told
 enum-told c = search needs
 
--- src/rows.rt:205:46
 frame-search-requires : tie.Need-frame-search-requires
 frame-search-requires c κs = search needs
 
--- src/rows.rt:205:38
 nothing-requires : tie.Need-nothing-requires
 nothing-requires c κs = search needs
 
--- src/rows.rt:206:70
 enum-told-2 : tie.Need-enum-told-2
 enum-told-2 c = search needs
 
--- src/rows.rt:206:49
 serial-revision-requires : tie.Need-serial-revision-requires
 serial-revision-requires c κs = search needs
 
--- src/rows.rt:206:41
 nothing-requires-2 : tie.Need-nothing-requires-2
 nothing-requires-2 c κs = search needs
 
--- src/rows.rt:207:60
 enum-told-3 : tie.Need-enum-told-3
 enum-told-3 c = search needs
 
--- src/rows.rt:207:44
 byte-count-requires : tie.Need-byte-count-requires
 byte-count-requires c κs =
     let s = c .before .before .before .before in
@@ -56,15 +40,12 @@ byte-count-requires c κs =
     let h = here-at _ (s .pre .1) ByteCount (c .before .enum-told3 .given .1) in
     (omega arith, omega arith)
 
--- src/rows.rt:207:36
 nothing-requires-3 : tie.Need-nothing-requires-3
 nothing-requires-3 c κs = search needs
 
--- src/rows.rt:208:49
 enum-told-4 : tie.Need-enum-told-4
 enum-told-4 c = search needs
 
--- src/rows.rt:208:39
 data-requires : tie.Need-data-requires
 data-requires c κs =
     let s = c .before .before .before .before in
@@ -73,15 +54,12 @@ data-requires c κs =
     let h = here-at _ (s .pre .1) Data (c .before .enum-told4 .given .1) in
     (omega arith, omega arith, omega arith)
 
--- src/rows.rt:208:31
 nothing-requires-4 : tie.Need-nothing-requires-4
 nothing-requires-4 c κs = search needs
 
--- src/rows.rt:209:64
 enum-told-5 : tie.Need-enum-told-5
 enum-told-5 c = search needs
 
--- src/rows.rt:209:46
 data-escaped-requires : tie.Need-data-escaped-requires
 data-escaped-requires c κs =
     let s = c .before .before .before .before in
@@ -90,15 +68,12 @@ data-escaped-requires c κs =
     let h = here-at _ (s .pre .1) DataEscaped (c .before .enum-told5 .given .1) in
     (omega arith, omega arith, omega arith)
 
--- src/rows.rt:209:38
 nothing-requires-5 : tie.Need-nothing-requires-5
 nothing-requires-5 c κs = search needs
 
--- src/rows.rt:210:51
 enum-told-6 : tie.Need-enum-told-6
 enum-told-6 c = search needs
 
--- src/rows.rt:210:40
 check-requires : tie.Need-check-requires
 check-requires c κs =
     let s = c .before .before .before .before in
@@ -107,15 +82,12 @@ check-requires c κs =
     let h = here-at _ (s .pre .1) Check (c .before .enum-told6 .given .1) in
     (omega arith, omega arith, omega arith)
 
--- src/rows.rt:210:32
 nothing-requires-6 : tie.Need-nothing-requires-6
 nothing-requires-6 c κs = search needs
 
--- src/rows.rt:211:50
 enum-told-7 : tie.Need-enum-told-7
 enum-told-7 c = search needs
 
--- src/rows.rt:211:35
 frame-end-requires : tie.Need-frame-end-requires
 frame-end-requires c κs =
     let s = c .before .before .before .before in
@@ -123,7 +95,6 @@ frame-end-requires c κs =
     let f = facts _ (s .pre .1) in
     (omega arith, omega arith)
 
--- src/rows.rt:199:5
 returns : tie.Need-returns
 unfolding rowOf
 returns c =
@@ -131,11 +102,9 @@ returns c =
     still _ _ _ _ (c .nothing .ensures) (c .before .frame-search .ensures _)
     ∙ row-at _ (s .pre .1) FrameSearch (c .before .before .enum-told .given .1) _
 
--- src/rows.rt:199:5
 same-length : tie.Need-same-length
 same-length c = search needs
 
--- src/rows.rt:199:5
 returns-2 : tie.Need-returns-2
 unfolding rowOf
 returns-2 c =
@@ -143,11 +112,9 @@ returns-2 c =
     still _ _ _ _ (c .nothing2 .ensures) (c .before .before .before .serial-revision .ensures)
     ∙ row-at _ (s .pre .1) SerialRevision (c .before .before .before .before .before .enum-told2 .given .1) _
 
--- src/rows.rt:199:5
 same-length-2 : tie.Need-same-length-2
 same-length-2 c = search needs
 
--- src/rows.rt:199:5
 returns-3 : tie.Need-returns-3
 unfolding rowOf
 returns-3 c =
@@ -155,11 +122,9 @@ returns-3 c =
     still _ _ _ _ (c .nothing3 .ensures) (c .before .before .before .byte-count .ensures)
     ∙ row-at _ (s .pre .1) ByteCount (c .before .before .before .before .before .enum-told3 .given .1) _
 
--- src/rows.rt:199:5
 same-length-3 : tie.Need-same-length-3
 same-length-3 c = search needs
 
--- src/rows.rt:199:5
 returns-4 : tie.Need-returns-4
 unfolding rowOf
 returns-4 c =
@@ -167,11 +132,9 @@ returns-4 c =
     still _ _ _ _ (c .nothing4 .ensures) (c .before .before .before .«data» .ensures)
     ∙ row-at _ (s .pre .1) Data (c .before .before .before .before .before .enum-told4 .given .1) _
 
--- src/rows.rt:199:5
 same-length-4 : tie.Need-same-length-4
 same-length-4 c = search needs
 
--- src/rows.rt:199:5
 returns-5 : tie.Need-returns-5
 unfolding rowOf
 returns-5 c =
@@ -179,11 +142,9 @@ returns-5 c =
     still _ _ _ _ (c .nothing5 .ensures) (c .before .before .before .data-escaped .ensures)
     ∙ row-at _ (s .pre .1) DataEscaped (c .before .before .before .before .before .enum-told5 .given .1) _
 
--- src/rows.rt:199:5
 same-length-5 : tie.Need-same-length-5
 same-length-5 c = search needs
 
--- src/rows.rt:199:5
 returns-6 : tie.Need-returns-6
 unfolding rowOf
 returns-6 c =
@@ -191,11 +152,9 @@ returns-6 c =
     still _ _ _ _ (c .nothing6 .ensures) (c .before .before .before .check .ensures)
     ∙ row-at _ (s .pre .1) Check (c .before .before .before .before .before .enum-told6 .given .1) _
 
--- src/rows.rt:199:5
 same-length-6 : tie.Need-same-length-6
 same-length-6 c = search needs
 
--- src/rows.rt:199:5
 returns-7 : tie.Need-returns-7
 unfolding rowOf
 returns-7 c =

@@ -1,47 +1,36 @@
-use Rattle.serial.specs.Receiver.{agreesOf}
+-- `Head::agrees` is the definition's test: the check of the stored bytes before the check bytes, and these as one number. Assumes nothing.
+use Prim.Native.Nat.{ℕ, _+_, _*_}
+use mathlib.Core.Path.{_≡_, _∙_, ap, ap₂, sym}
+use native.Mathlib.Omega.{arith}
 use lib.Seq.{length-take-le}
 use lib.ListN.{getD}
 use lib.Dec.{eqb}
-use native.Mathlib.Omega.{arith}
-use Prim.Native.Nat.{ℕ, _+_, _*_}
-use mathlib.Core.Path.{_≡_, _∙_, ap, ap₂, sym}
 use borrow.Author.Needs.{needs}
+use Rattle.serial.specs.Receiver.{agreesOf}
 use Rattle.serial.proofs.rows.Head.agrees.Statement.{statement}
 use Rattle.serial.proofs.rows.Head.agrees.Tie as tie
-use Rattle.serial.proofs.rows.Head.agrees.Reads as reads
-use Rattle.serial.proofs.rows.Head.agrees.Lts as lts
-use Rattle.checks.proofs.frame_check.Reads as frame-check-reads
-use Rattle.serial.proofs.rows.word.Reads as word-reads
 
--- src/rows.rt:82:17
 add-n : tie.Need-add-n
 add-n c = search needs
 
--- src/rows.rt:83:29
 slice-aggregate-frame-check : tie.Need-slice-aggregate-frame-check
 slice-aggregate-frame-check c = sym (length-take-le _ _ (omega arith))
 
--- src/rows.rt:83:9
 frame-check-requires : tie.Need-frame-check-requires
 frame-check-requires c κs = search needs
 
--- src/rows.rt:83:51
 shared-slice-read-word : tie.Need-shared-slice-read-word
 shared-slice-read-word c = search needs
 
--- src/rows.rt:83:69
 add-word : tie.Need-add-word
 add-word c = search needs
 
--- src/rows.rt:83:62
 shared-slice-read-word-2 : tie.Need-shared-slice-read-word-2
 shared-slice-read-word-2 c = search needs
 
--- src/rows.rt:83:46
 word-requires : tie.Need-word-requires
 word-requires c κs = search needs
 
--- src/rows.rt:78:5
 returns : tie.Need-returns
 unfolding agreesOf
 returns c =

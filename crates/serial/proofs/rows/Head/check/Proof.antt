@@ -1,43 +1,33 @@
+-- `Head::check` is its row, by the test whether both check bytes are stored. Assumes nothing.
 use borrow.Author.Tests.{eq-eqb, ne-eqb}
 use borrow.Author.Needs.{needs}
 use Rattle.serial.proofs.rows.Head.check.Statement.{statement}
 use Rattle.serial.proofs.rows.Head.check.Tie as tie
-use Rattle.serial.proofs.rows.Head.check.Reads as reads
-use Rattle.serial.proofs.rows.Head.check.Lts as lts
 
--- src/rows.rt:163:9
 slice-write-stored : tie.Need-slice-write-stored
 slice-write-stored c = search needs
 
--- src/rows.rt:164:12
 add-if1 : tie.Need-add-if1
 add-if1 c = search needs
 
--- src/rows.rt:164:23
 add-if1-2 : tie.Need-add-if1-2
 add-if1-2 c = search needs
 
--- src/rows.rt:168:22
 add-t12 : tie.Need-add-t12
 add-t12 c = search needs
 
--- src/rows.rt:174:22
 add-t14 : tie.Need-add-t14
 add-t14 c = search needs
 
--- src/rows.rt:157:5
 same-length : tie.Need-same-length
 same-length c = search needs
 
--- src/rows.rt:157:5
 returns : tie.Need-returns
 returns c = simp (eq-eqb _ _ (c .if1 .taken))
 
--- src/rows.rt:157:5
 same-length-2 : tie.Need-same-length-2
 same-length-2 c = search needs
 
--- src/rows.rt:157:5
 returns-2 : tie.Need-returns-2
 returns-2 c = simp (ne-eqb _ _ (c .if1 .left))
 

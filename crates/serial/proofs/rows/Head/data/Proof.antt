@@ -1,37 +1,27 @@
+-- `Head::data` is its row, by the tests for flag and escape. Assumes nothing.
 use borrow.Author.Tests.{eq-eqb, ne-eqb}
 use borrow.Author.Needs.{needs}
 use Rattle.serial.proofs.rows.Head.data.Statement.{statement}
 use Rattle.serial.proofs.rows.Head.data.Tie as tie
-use Rattle.serial.proofs.rows.Head.data.Reads as reads
-use Rattle.serial.proofs.rows.Head.data.Lts as lts
-use Rattle.serial.proofs.rows.Head.at.Reads as at-reads
-use Rattle.serial.proofs.rows.Head.store_data.Reads as store-data-reads
 
--- src/rows.rt:136:13
 at-requires : tie.Need-at-requires
 at-requires c κs = search needs
 
--- src/rows.rt:138:13
 at-requires-2 : tie.Need-at-requires-2
 at-requires-2 c κs = search needs
 
--- src/rows.rt:140:13
 store-data-requires : tie.Need-store-data-requires
 store-data-requires c κs = search needs
 
--- src/rows.rt:131:5
 returns : tie.Need-returns
 returns c = simp (eq-eqb _ _ (c .before .if1 .taken)) (c .at .ensures _)
 
--- src/rows.rt:131:5
 returns-2 : tie.Need-returns-2
 returns-2 c = simp (ne-eqb _ _ (c .before .before .if1 .left), eq-eqb _ _ (c .before .if2 .taken)) (c .at2 .ensures _)
 
--- src/rows.rt:131:5
 same-length : tie.Need-same-length
 same-length c = search needs
 
--- src/rows.rt:131:5
 returns-3 : tie.Need-returns-3
 returns-3 c = simp (ne-eqb _ _ (c .before .before .before .before .before .if1 .left), ne-eqb _ _ (c .before .before .before .before .if2 .left)) (c .before .before .store-data .ensures)
 

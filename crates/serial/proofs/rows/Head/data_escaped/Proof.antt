@@ -1,41 +1,30 @@
+-- `Head::data_escaped` is its row, by the tests for the two escaped bytes. Assumes nothing.
 use borrow.Author.Tests.{eq-eqb, ne-eqb}
 use borrow.Author.Needs.{needs}
 use Rattle.serial.proofs.rows.Head.data_escaped.Statement.{statement}
 use Rattle.serial.proofs.rows.Head.data_escaped.Tie as tie
-use Rattle.serial.proofs.rows.Head.data_escaped.Reads as reads
-use Rattle.serial.proofs.rows.Head.data_escaped.Lts as lts
-use Rattle.serial.proofs.rows.Head.at.Reads as at-reads
-use Rattle.serial.proofs.rows.Head.store_data.Reads as store-data-reads
 
--- src/rows.rt:149:13
 store-data-requires : tie.Need-store-data-requires
 store-data-requires c κs = search needs
 
--- src/rows.rt:151:13
 store-data-requires-2 : tie.Need-store-data-requires-2
 store-data-requires-2 c κs = search needs
 
--- src/rows.rt:153:13
 at-requires : tie.Need-at-requires
 at-requires c κs = search needs
 
--- src/rows.rt:144:5
 same-length : tie.Need-same-length
 same-length c = search needs
 
--- src/rows.rt:144:5
 returns : tie.Need-returns
 returns c = simp (eq-eqb _ _ (c .before .before .before .before .if1 .taken)) (c .before .before .store-data .ensures)
 
--- src/rows.rt:144:5
 same-length-2 : tie.Need-same-length-2
 same-length-2 c = search needs
 
--- src/rows.rt:144:5
 returns-2 : tie.Need-returns-2
 returns-2 c = simp (ne-eqb _ _ (c .before .before .before .before .before .if1 .left), eq-eqb _ _ (c .before .before .before .before .if2 .taken)) (c .before .before .store-data2 .ensures)
 
--- src/rows.rt:144:5
 returns-3 : tie.Need-returns-3
 returns-3 c = simp (ne-eqb _ _ (c .before .before .if1 .left), ne-eqb _ _ (c .before .if2 .left)) (c .at .ensures _)
 

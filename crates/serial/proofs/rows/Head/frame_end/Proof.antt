@@ -1,51 +1,39 @@
-use Rattle.serial.proofs.Core.{still}
-use Rattle.serial.specs.declared.receiver.Outcome.the-variants.{Packet}
-use Rattle.serial.specs.declared.receiver.Receiver.{Receiver}
+-- `Head::frame_end` is its row: a flag hands out where the check agrees. Assumes nothing.
 use mathlib.Core.Path.{_∙_, ap, sym}
 use borrow.Author.Tests.{eq-eqb, ne-eqb}
 use borrow.Author.Needs.{needs}
+use Rattle.serial.specs.declared.receiver.Outcome.the-variants.{Packet}
+use Rattle.serial.specs.declared.receiver.Receiver.{Receiver}
+use Rattle.serial.proofs.Core.{still}
 use Rattle.serial.proofs.rows.Head.frame_end.Statement.{statement}
 use Rattle.serial.proofs.rows.Head.frame_end.Tie as tie
-use Rattle.serial.proofs.rows.Head.frame_end.Reads as reads
-use Rattle.serial.proofs.rows.Head.frame_end.Lts as lts
-use Rattle.serial.proofs.rows.Head.agrees.Reads as agrees-reads
-use Rattle.serial.proofs.rows.Head.at.Reads as at-reads
-use Rattle.serial.proofs.rows.nothing.Reads as nothing-reads
 
--- src/rows.rt:184:17
 at-requires : tie.Need-at-requires
 at-requires c κs = search needs
 
--- src/rows.rt:185:16
 agrees-requires : tie.Need-agrees-requires
 agrees-requires c κs = search needs
 
--- src/rows.rt:191:17
 nothing-requires : tie.Need-nothing-requires
 nothing-requires c κs = search needs
 
--- src/rows.rt:194:21
 at-requires-2 : tie.Need-at-requires-2
 at-requires-2 c κs = search needs
 
--- src/rows.rt:194:13
 nothing-requires-2 : tie.Need-nothing-requires-2
 nothing-requires-2 c κs = search needs
 
--- src/rows.rt:179:5
 returns : tie.Need-returns
 returns c =
     let n = c .before .before .before .before .before .args .self .count in
     simp (eq-eqb _ _ (c .before .before .before .if1 .taken), sym (c .before .agrees .ensures) ∙ c .if2 .taken)
     (ap (λ (s : Receiver). record { outcome = Packet n; state = s }) (c .before .before .at .ensures _))
 
--- src/rows.rt:179:5
 returns-2 : tie.Need-returns-2
 returns-2 c =
     simp (eq-eqb _ _ (c .before .before .before .before .if1 .taken), sym (c .before .before .agrees .ensures) ∙ c .before .if2 .left)
     (still _ _ _ _ (c .nothing .ensures) (c .before .before .before .at .ensures _))
 
--- src/rows.rt:179:5
 returns-3 : tie.Need-returns-3
 returns-3 c =
     simp (ne-eqb _ _ (c .before .before .if1 .left)) (still _ _ _ _ (c .nothing2 .ensures) (c .before .at2 .ensures _))

@@ -1,48 +1,36 @@
+-- `Head::serial_revision` is its row: the byte is stored first, and each of the three tests leads where the row says. Assumes nothing.
 use borrow.Author.Tests.{eq-eqb, ne-eqb}
 use borrow.Author.Needs.{needs}
 use Rattle.serial.proofs.rows.Head.serial_revision.Statement.{statement}
 use Rattle.serial.proofs.rows.Head.serial_revision.Tie as tie
-use Rattle.serial.proofs.rows.Head.serial_revision.Reads as reads
-use Rattle.serial.proofs.rows.Head.serial_revision.Lts as lts
-use Rattle.serial.proofs.rows.begun.Reads as begun-reads
 
--- src/rows.rt:100:9
 slice-write-stored : tie.Need-slice-write-stored
 slice-write-stored c = search needs
 
--- src/rows.rt:102:13
 begun-requires : tie.Need-begun-requires
 begun-requires c κs = search needs
 
--- src/rows.rt:104:13
 begun-requires-2 : tie.Need-begun-requires-2
 begun-requires-2 c κs = search needs
 
--- src/rows.rt:106:13
 begun-requires-3 : tie.Need-begun-requires-3
 begun-requires-3 c κs = search needs
 
--- src/rows.rt:96:5
 same-length : tie.Need-same-length
 same-length c = search needs
 
--- src/rows.rt:96:5
 returns : tie.Need-returns
 returns c = simp (eq-eqb _ _ (c .before .if1 .taken), c .begun .ensures)
 
--- src/rows.rt:96:5
 same-length-2 : tie.Need-same-length-2
 same-length-2 c = search needs
 
--- src/rows.rt:96:5
 returns-2 : tie.Need-returns-2
 returns-2 c = simp (ne-eqb _ _ (c .before .before .if1 .left), eq-eqb _ _ (c .before .if2 .taken), c .begun2 .ensures)
 
--- src/rows.rt:96:5
 same-length-3 : tie.Need-same-length-3
 same-length-3 c = search needs
 
--- src/rows.rt:96:5
 returns-3 : tie.Need-returns-3
 returns-3 c = simp (ne-eqb _ _ (c .before .before .if1 .left), ne-eqb _ _ (c .before .if2 .left), c .begun3 .ensures)
 

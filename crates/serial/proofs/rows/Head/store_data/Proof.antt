@@ -1,43 +1,33 @@
+-- `Head::store_data` stores the byte and is in Check once the count is reached, as the definition says. Assumes nothing.
 use borrow.Author.Tests.{eq-eqb, ne-eqb}
 use borrow.Author.Needs.{needs}
 use Rattle.serial.proofs.rows.Head.store_data.Statement.{statement}
 use Rattle.serial.proofs.rows.Head.store_data.Tie as tie
-use Rattle.serial.proofs.rows.Head.store_data.Reads as reads
-use Rattle.serial.proofs.rows.Head.store_data.Lts as lts
 
--- src/rows.rt:61:9
 slice-write-stored : tie.Need-slice-write-stored
 slice-write-stored c = search needs
 
--- src/rows.rt:62:12
 add-if1 : tie.Need-add-if1
 add-if1 c = search needs
 
--- src/rows.rt:62:23
 add-if1-2 : tie.Need-add-if1-2
 add-if1-2 c = search needs
 
--- src/rows.rt:66:22
 add-t12 : tie.Need-add-t12
 add-t12 c = search needs
 
--- src/rows.rt:72:22
 add-t14 : tie.Need-add-t14
 add-t14 c = search needs
 
--- src/rows.rt:55:5
 same-length : tie.Need-same-length
 same-length c = search needs
 
--- src/rows.rt:55:5
 returns : tie.Need-returns
 returns c = simp (eq-eqb _ _ (c .if1 .taken))
 
--- src/rows.rt:55:5
 same-length-2 : tie.Need-same-length-2
 same-length-2 c = search needs
 
--- src/rows.rt:55:5
 returns-2 : tie.Need-returns-2
 returns-2 c = simp (ne-eqb _ _ (c .if1 .left))
 
