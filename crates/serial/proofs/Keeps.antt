@@ -11,7 +11,7 @@ use lib.ListN.{length, getD, set, length-replicate, length-set}
 use lib.Seq.{getD-set-other, getD-set-same}
 use borrow.Author.Tests.{eqb-false, eqb-true}
 use Rattle.checks.specs.Laws.{Bytes}
-use Rattle.checks.specs.Numbers.{done}
+use Rattle.checks.specs.Numbers.{Answer, answer, done}
 use Rattle.serial.specs.declared.receiver.Position.{Position}
 use Rattle.serial.specs.declared.receiver.Position.the-variants.{FrameSearch, SerialRevision, ByteCount, Data, DataEscaped, Check, FrameEnd}
 use Rattle.serial.specs.declared.receiver.Receiver.{Receiver}
@@ -20,9 +20,9 @@ use Rattle.serial.specs.declared.receiver.Stepped.{Stepped}
 use Rattle.serial.specs.Frame.{flag, escape, flagEscaped, escapeEscaped, revision}
 use Rattle.serial.specs.Receiver.{byteCountRow, checkRow, dataEscapedRow, dataRow, frameEndRow, frameSearchRow, freshOf, handsOut, moveTo, rowOf, serialRevisionRow, stepOf, storeData}
 use Rattle.serial.specs.Run.{runOf}
-use Rattle.serial.specs.Answers.{outcomeAnswer}
+use Rattle.serial.specs.Answers.{handedAt, outcomeAnswer}
 use Rattle.serial.specs.Consistency.{Consistent, NeverInconsistent, ReachableConsistent, StepKeeps}
-use Rattle.serial.proofs.Answers.{step-numbered}
+use Rattle.serial.proofs.Answers.{step-answered}
 use Rattle.serial.proofs.Consistent.{Counted, FitsAt, by-cond, facts, holds, row-of}
 
 -- a byte stored behind the count leaves revision and count as they are
@@ -132,4 +132,5 @@ reachable-consistent h bytes = run-keeps freshOf h fresh-consistent bytes
 pub never-inconsistent : NeverInconsistent
 never-inconsistent h b bytes =
     let s = runOf freshOf h in
-    step-numbered b s (stepOf b s) refl .1 ∙ ap (λ (t : Bool). cond t done (outcomeAnswer Inconsistent .number)) (reachable-consistent h bytes .fits)
+    ap (λ (a : Answer). a .number) (step-answered b s (stepOf b s) refl .1)
+    ∙ ap (λ (t : Bool). cond t (answer done (handedAt (s .position) b s)) (outcomeAnswer Inconsistent) .number) (reachable-consistent h bytes .fits)

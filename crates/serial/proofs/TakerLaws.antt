@@ -5,11 +5,11 @@ use mathlib.Core.Bool.{true, false}
 use mathlib.Core.List.{List, [], _∷_}
 use native.Mathlib.Numerals.{add-one}
 use native.Mathlib.Omega.{arith}
-use lib.ListN.{length, drop, getD, drop-of-length-le}
-use lib.Seq.{drop-cons}
+use lib.ListN.{length, drop, getD, take, drop-of-length-le, length-drop}
+use lib.Seq.{drop-cons, length-take-le, take-nil}
 use borrow.Author.Tests.{le-ltb, lt-ltb}
 use Rattle.checks.specs.Laws.{Bytes}
-use Rattle.checks.specs.Numbers.{done}
+use Rattle.checks.specs.Numbers.{answer, done}
 use Rattle.serial.specs.declared.receiver.Position.{Position}
 use Rattle.serial.specs.declared.receiver.Position.the-variants.{FrameSearch, SerialRevision, ByteCount, Data, DataEscaped, Check, FrameEnd}
 use Rattle.serial.specs.declared.receiver.Receiver.{Receiver}
@@ -17,11 +17,12 @@ use Rattle.serial.specs.declared.receiver.Outcome.{Outcome}
 use Rattle.serial.specs.declared.receiver.Outcome.the-variants.{Nothing, Packet, Inconsistent}
 use Rattle.serial.specs.declared.receiver.Stepped.{Stepped}
 use Rattle.serial.specs.declared.taker.Reason.{Reason}
-use Rattle.serial.specs.declared.taker.Reason.the-variants.{Packet as PacketTaken, InputEnded, AllowanceSpent, ShortOutput, Inconsistent as InconsistentTaken}
+use Rattle.serial.specs.declared.taker.Reason.the-variants.{InputEnded, AllowanceSpent, ShortOutput, Inconsistent as InconsistentTaken}
 use Rattle.serial.specs.declared.taker.Taken.{Taken}
-use Rattle.serial.specs.Answers.{reasonAnswer, takerNumber}
+use Rattle.serial.specs.Answers.{firstLength, reasonAnswer, takerAnswer}
 use Rattle.serial.specs.Consistency.{Consistent}
 use Rattle.serial.specs.Receiver.{consistentOf, freshOf, handsOut, rowOf, stepOf}
+use Rattle.serial.specs.Run.{emit, outsOf, packetIn}
 use Rattle.serial.specs.Taker.{Fair, afterStep, copiedOf, stop, takeFrom, takenOf}
 use Rattle.serial.proofs.Consistent.{by-cond, facts, row-of}
 use Rattle.serial.proofs.Keeps.{keeps}
@@ -80,7 +81,7 @@ fair-after Nothing s n more h k = k
 fair-after (Packet j) s n more h k = h
 fair-after Inconsistent s n more h k = absurd h
 
-pub fair : (input : List ℕ) (allowance : ℕ) (s : Receiver) (n : ℕ) → Consistent s → Bytes input → Fair (takeFrom input allowance s n .reason)
+fair : (input : List ℕ) (allowance : ℕ) (s : Receiver) (n : ℕ) → Consistent s → Bytes input → Fair (takeFrom input allowance s n .reason)
 unfolding takeFrom
 fair [] allowance s n c h = tt
 fair (b ∷ bs) zero s n c h = tt
@@ -88,33 +89,59 @@ fair (b ∷ bs) (suc allowance) s n c h =
     fair-after (stepOf b s .outcome) (stepOf b s .state) (n + 1) (takeFrom bs allowance (stepOf b s .state) (n + 1)) (fair-step b s c)
     (fair bs allowance (stepOf b s .state) (n + 1) (keeps s b c (h 0)) (λ i. h (suc i)))
 
-fair-number : (r : Reason) → Fair r → reasonAnswer r .number ≡ done
-fair-number (PacketTaken n) f = refl
-fair-number InputEnded f = refl
-fair-number AllowanceSpent f = refl
-fair-number ShortOutput f = absurd f
-fair-number InconsistentTaken f = absurd f
+-- a handed-out packet has as many bytes as is said
+packet-length : (s : Receiver) (n : ℕ) → length (s .stored) ≡ 259 → n ≤ 255 → length (packetIn n s) ≡ n
+packet-length s n sized few = length-take-le n (drop 2 (s .stored)) (omega (arith, length-drop 2 (s .stored)))
 
--- what is said of bytes taken
-pub fair-taken : (t u v : Taken) → t ≡ u → u ≡ v → Fair (u .reason) → (t ≡ v) × Fair (t .reason)
-fair-taken t u v e f h = (e ∙ f, subst (λ (w : Taken). Fair (w .reason)) (sym e) h)
+after-answer : (o : Outcome) (s : Receiver) (n i : ℕ) (more : Taken) (outs : List (ℕ × List ℕ)) → length (s .stored) ≡ 259 → FairOutcome o
+    → reasonAnswer (more .reason) ≡ answer done (firstLength outs)
+    → reasonAnswer (afterStep o s n more .reason) ≡ answer done (firstLength (emit o s i outs))
+after-answer Nothing s n i more outs sized few h = h
+after-answer (Packet j) s n i more outs sized few h = ap (λ (k : ℕ). answer done (k ∷ [])) (sym (packet-length s j sized few))
+after-answer Inconsistent s n i more outs sized few h = absurd few
+
+-- the taker answers the first packet that one pass over the bytes allowed hands out
+first-answer : (input : List ℕ) (allowance : ℕ) (s : Receiver) (n i : ℕ) → Consistent s → Bytes input
+    → reasonAnswer (takeFrom input allowance s n .reason) ≡ answer done (firstLength (outsOf i s (take allowance input)))
+unfolding takeFrom outsOf
+first-answer [] allowance s n i c h = ap (λ (xs : List ℕ). answer done (firstLength (outsOf i s xs))) (sym (take-nil allowance))
+first-answer (b ∷ bs) zero s n i c h = refl
+first-answer (b ∷ bs) (suc allowance) s n i c h =
+    let next = stepOf b s .state in
+    let kept = keeps s b c (h 0) in
+    after-answer (stepOf b s .outcome) next (n + 1) i (takeFrom bs allowance next (n + 1)) (outsOf (i + 1) next (take allowance bs)) (kept .sized) (fair-step b s c)
+    (first-answer bs allowance next (n + 1) (i + 1) kept (λ i. h (suc i)))
+
+-- both, of what is taken from a state
+abbrev pub Took : List ℕ → ℕ → Receiver → Taken → Type 0
+Took input allowance s t = Fair (t .reason) × (reasonAnswer (t .reason) ≡ answer done (firstLength (outsOf 0 s (take allowance input))))
+
+pub took : (input : List ℕ) (allowance : ℕ) (s : Receiver) → Consistent s → Bytes input → Took input allowance s (takeFrom input allowance s 0)
+took input allowance s c h = (fair input allowance s 0 c h, first-answer input allowance s 0 0 c h)
+
+pub taken-from : (input : List ℕ) (allowance : ℕ) (s u : Receiver) (t : Taken) → t ≡ takeFrom input allowance s 0 → s ≡ u
+    → Took input allowance s (takeFrom input allowance s 0) → (t ≡ takeFrom input allowance u 0) × Took input allowance u t
+taken-from input allowance s u t e f h = (
+  e ∙ ap (λ (x : Receiver). takeFrom input allowance x 0) f,
+  subst (λ (x : Receiver). Took input allowance x t) f (subst (Took input allowance s) (sym e) h),
+)
 
 -- ---- what the taker says
 
--- its result, the output that it leaves, and its number
+-- its result, the output that it leaves, and its answer
 abbrev Said : List ℕ → ℕ → Receiver → List ℕ → Taken → List ℕ → Type 0
 Said input allowance s out t left =
     (t ≡ takenOf input allowance (length out) s)
-    × ((left ≡ copiedOf (t .reason) (t .state) out) × (reasonAnswer (t .reason) .number ≡ takerNumber s (length out)))
+    × ((left ≡ copiedOf (t .reason) (t .state) out) × (reasonAnswer (t .reason) ≡ takerAnswer input allowance (length out) s))
 
 module _ (input : List ℕ) (allowance : ℕ) (s : Receiver) (out : List ℕ) (t : Taken) where
   -- of bytes taken, for this reason
   pub taken-said : (r : Reason) (left : List ℕ) → consistentOf s ≡ true → 255 ≤ length out
-      → (t ≡ takeFrom input allowance s 0) × Fair (t .reason) → t .reason ≡ r → left ≡ copiedOf r (t .state) out → Said input allowance s out t left
+      → (t ≡ takeFrom input allowance s 0) × Took input allowance s t → t .reason ≡ r → left ≡ copiedOf r (t .state) out → Said input allowance s out t left
   unfolding takenOf
   taken-said r left c room e f g = (
     simp (c, le-ltb (length out) 255 room) (e .0),
-    (g ∙ ap (λ (q : Reason). copiedOf q (t .state) out) (sym f), simp (c, le-ltb (length out) 255 room) (fair-number (t .reason) (e .1))),
+    (g ∙ ap (λ (q : Reason). copiedOf q (t .state) out) (sym f), simp (c, le-ltb (length out) 255 room) (e .1 .1)),
   )
 
   -- too little room
@@ -122,11 +149,11 @@ module _ (input : List ℕ) (allowance : ℕ) (s : Receiver) (out : List ℕ) (t
   unfolding takenOf copiedOf
   short-said c room e = (
     simp (c, lt-ltb (length out) 255 room) e,
-    (ap (λ (u : Taken). copiedOf (u .reason) (u .state) out) (sym e), simp (c, lt-ltb (length out) 255 room) (ap (λ (u : Taken). reasonAnswer (u .reason) .number) e)),
+    (ap (λ (u : Taken). copiedOf (u .reason) (u .state) out) (sym e), simp (c, lt-ltb (length out) 255 room) (ap (λ (u : Taken). reasonAnswer (u .reason)) e)),
   )
 
   -- an inconsistent state
   pub inconsistent-said : consistentOf s ≡ false → t ≡ stop InconsistentTaken 0 freshOf → Said input allowance s out t out
   unfolding takenOf copiedOf
   inconsistent-said c e =
-      (simp c e, (ap (λ (u : Taken). copiedOf (u .reason) (u .state) out) (sym e), simp c (ap (λ (u : Taken). reasonAnswer (u .reason) .number) e)))
+      (simp c e, (ap (λ (u : Taken). copiedOf (u .reason) (u .state) out) (sym e), simp c (ap (λ (u : Taken). reasonAnswer (u .reason)) e)))

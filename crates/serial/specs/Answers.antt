@@ -4,17 +4,20 @@ use Prim.Native.Nat.{ℕ}
 use mathlib.Core.Bool.{cond}
 use mathlib.Core.List.{List, [], _∷_}
 use lib.Dec.{leb, ltb}
-use lib.ListN.{length}
+use lib.ListN.{length, take}
 use Rattle.checks.specs.Numbers.{Answer, answer, badLength, done, inconsistent, shortOutput}
 use Rattle.serial.specs.declared.frame.Written.{Written}
 use Rattle.serial.specs.declared.frame.Written.the-variants.{Done, BadLength, ShortOutput}
 use Rattle.serial.specs.declared.receiver.Outcome.{Outcome}
 use Rattle.serial.specs.declared.receiver.Outcome.the-variants.{Nothing, Packet, Inconsistent}
+use Rattle.serial.specs.declared.receiver.Position.{Position}
+use Rattle.serial.specs.declared.receiver.Position.the-variants.{FrameSearch, SerialRevision, ByteCount, Data, DataEscaped, Check, FrameEnd}
 use Rattle.serial.specs.declared.receiver.Receiver.{Receiver}
 use Rattle.serial.specs.declared.taker.Reason.{Reason}
 use Rattle.serial.specs.declared.taker.Reason.the-variants.{Packet as PacketTaken, InputEnded, AllowanceSpent, ShortOutput as ShortTaken, Inconsistent as InconsistentTaken}
 use Rattle.serial.specs.Frame.{frame}
-use Rattle.serial.specs.Receiver.{consistentOf}
+use Rattle.serial.specs.Receiver.{consistentOf, handsOut}
+use Rattle.serial.specs.Run.{outsOf}
 use Rattle.serial.specs.Writer.{sendable}
 
 -- ---- the frame writer: the value is the frame's length
@@ -25,8 +28,11 @@ writtenAnswer BadLength = answer badLength []
 writtenAnswer ShortOutput = answer shortOutput []
 
 -- of a packet, into an output of `room` bytes; 1 before 2
-abbrev pub writerNumber : List ℕ → ℕ → ℕ
-writerNumber packet room = cond (sendable packet) (cond (leb (length (frame packet)) room) done shortOutput) badLength
+abbrev pub writerAnswer : List ℕ → ℕ → Answer
+writerAnswer packet room =
+    cond (sendable packet)
+    (cond (leb (length (frame packet)) room) (answer done (length (frame packet) ∷ [])) (answer shortOutput []))
+    (answer badLength [])
 
 -- ---- a step: the value is a handed-out packet's length
 
@@ -35,8 +41,19 @@ outcomeAnswer Nothing = answer done []
 outcomeAnswer (Packet n) = answer done (n ∷ [])
 outcomeAnswer Inconsistent = answer inconsistent []
 
-abbrev pub stepNumber : Receiver → ℕ
-stepNumber s = cond (consistentOf s) done inconsistent
+-- the length of the packet that a byte hands out, if it does
+abbrev pub handedAt : Position → ℕ → Receiver → List ℕ
+handedAt FrameSearch b s = []
+handedAt SerialRevision b s = []
+handedAt ByteCount b s = []
+handedAt Data b s = []
+handedAt DataEscaped b s = []
+handedAt Check b s = []
+handedAt FrameEnd b s = cond (handsOut b s) (s .count ∷ []) []
+
+-- of a byte, on a state
+abbrev pub stepAnswer : ℕ → Receiver → Answer
+stepAnswer b s = cond (consistentOf s) (answer done (handedAt (s .position) b s)) (answer inconsistent [])
 
 -- ---- the taker: the value is a handed-out packet's length
 
@@ -47,6 +64,14 @@ reasonAnswer AllowanceSpent = answer done []
 reasonAnswer ShortTaken = answer shortOutput []
 reasonAnswer InconsistentTaken = answer inconsistent []
 
--- from a state, with an output of `room` bytes; 9 before 2
-abbrev pub takerNumber : Receiver → ℕ → ℕ
-takerNumber s room = cond (consistentOf s) (cond (ltb room 255) shortOutput done) inconsistent
+-- the length of the first of some packets, if there is one
+abbrev pub firstLength : List (ℕ × List ℕ) → List ℕ
+firstLength [] = []
+firstLength (o ∷ os) = length (o .1) ∷ []
+
+-- from a state, with an output of `room` bytes: the first packet that one pass over the bytes allowed hands out; 9 before 2
+abbrev pub takerAnswer : List ℕ → ℕ → ℕ → Receiver → Answer
+takerAnswer input allowance room s =
+    cond (consistentOf s)
+    (cond (ltb room 255) (answer shortOutput []) (answer done (firstLength (outsOf 0 s (take allowance input)))))
+    (answer inconsistent [])

@@ -6,7 +6,7 @@ ghost use mathlib.Core.List.{[], _∷_, _++_};
 ghost use lib.Dec.{eqb};
 ghost use lib.ListN.{length, take};
 ghost use Rattle.checks.specs.FrameCheck.{frameCheck};
-ghost use Rattle.serial.specs.Answers.{writerNumber, writtenAnswer};
+ghost use Rattle.serial.specs.Answers.{writerAnswer, writtenAnswer};
 ghost use Rattle.serial.specs.Frame.{flag, escape, escaped, escapedAll, escapes, covered, frame};
 ghost use Rattle.serial.specs.Writer.{atStart, outputOf, writtenOf};
 use crate::wire::ESCAPE_ESCAPED;
@@ -122,7 +122,7 @@ fn write_frame(packet: &[u8], out: &mut [u8])
 pub fn frame_to_serial(packet: &[u8], out: &mut [u8]) -> Written
     ensures { λ r. ⌜ r ≡ writtenOf (now (packet .entry)) (length (now (out .entry))) ⌝ }
     ensures { λ r. ⌜ now (out .exit) ≡ outputOf r (now (packet .entry)) (now (out .entry)) ⌝ }
-    ensures { λ r. ⌜ writtenAnswer r .number ≡ writerNumber (now (packet .entry)) (length (now (out .entry))) ⌝ }
+    ensures { λ r. ⌜ writtenAnswer r ≡ writerAnswer (now (packet .entry)) (length (now (out .entry))) ⌝ }
 {
     let count = packet.len();
     if count < 5 {

@@ -1,7 +1,7 @@
 // The serial receiver: its state as one value, and what one byte does to it.
 ghost use mathlib.Core.Path.{_≡_};
 ghost use Rattle.serial.specs.Receiver.{consistentOf, counted, freshOf, stepOf};
-ghost use Rattle.serial.specs.Answers.{outcomeAnswer, stepNumber};
+ghost use Rattle.serial.specs.Answers.{outcomeAnswer, stepAnswer};
 ghost use Rattle.serial.specs.Core.{held};
 use crate::rows::Head;
 use crate::wire::MCTP_SERIAL_REVISION;
@@ -97,7 +97,7 @@ impl Receiver {
     // from 2 on until the next byte is fed. An inconsistent state gives number 9 and a fresh state, and the byte is not looked at.
     pub fn step(self, b: u8) -> Stepped
         ensures { λ r. ⌜ r ≡ stepOf b self ⌝ }
-        ensures { λ r. ⌜ outcomeAnswer (r .outcome) .number ≡ stepNumber self ⌝ }
+        ensures { λ r. ⌜ outcomeAnswer (r .outcome) ≡ stepAnswer b self ⌝ }
     {
         if self.consistent() {
             let mut stored = self.stored;

@@ -3,8 +3,10 @@ ghost use mathlib.Core.Path.{_≡_};
 ghost use mathlib.Core.Bool.{true};
 ghost use Prim.Native.Nat.{_+_, _≤_};
 ghost use lib.ListN.{length, drop, take};
-ghost use Rattle.serial.specs.Answers.{reasonAnswer, takerNumber};
+ghost use Rattle.checks.specs.Numbers.{answer, done};
+ghost use Rattle.serial.specs.Answers.{firstLength, reasonAnswer, takerAnswer};
 ghost use Rattle.serial.specs.Receiver.{consistentOf};
+ghost use Rattle.serial.specs.Run.{outsOf};
 ghost use Rattle.serial.specs.Taker.{Fair, copiedOf, takeFrom, takenOf};
 ghost use Rattle.serial.specs.Writer.{atStart};
 use crate::receiver::Outcome;
@@ -43,6 +45,7 @@ impl Receiver {
         requires { ⌜ consistentOf self ≡ true ⌝ }
         ensures { λ r. ⌜ r ≡ takeFrom (now (input .entry)) allowance self 0 ⌝ }
         ensures { λ r. ⌜ Fair (r .reason) ⌝ }
+        ensures { λ r. ⌜ reasonAnswer (r .reason) ≡ answer done (firstLength (outsOf 0 self (take allowance (now (input .entry))))) ⌝ }
     {
         let mut stored = self.stored;
         let mut head = self.head();
@@ -83,7 +86,7 @@ impl Receiver {
     pub fn take(self, input: &[u8], allowance: usize, out: &mut [u8]) -> Taken
         ensures { λ r. ⌜ r ≡ takenOf (now (input .entry)) allowance (length (now (out .entry))) self ⌝ }
         ensures { λ r. ⌜ now (out .exit) ≡ copiedOf (r .reason) (r .state) (now (out .entry)) ⌝ }
-        ensures { λ r. ⌜ reasonAnswer (r .reason) .number ≡ takerNumber self (length (now (out .entry))) ⌝ }
+        ensures { λ r. ⌜ reasonAnswer (r .reason) ≡ takerAnswer (now (input .entry)) allowance (length (now (out .entry))) self ⌝ }
     {
         if self.consistent() {
             if out.len() < 255 {

@@ -10,7 +10,7 @@ use borrow.Author.Tests.{le-leb, lt-leb}
 use Rattle.serial.specs.declared.frame.Written.the-variants.{Done, BadLength, ShortOutput}
 use Rattle.serial.specs.Frame.{frame}
 use Rattle.serial.specs.Writer.{writtenOf, outputOf}
-use Rattle.serial.proofs.Answers.{written-numbered}
+use Rattle.serial.proofs.Answers.{written-answered}
 use Rattle.serial.proofs.FrameLaws.{escapes-most, frame-length}
 use Rattle.serial.proofs.frame.frame_to_serial.Statement.{statement}
 use Rattle.serial.proofs.frame.frame_to_serial.Tie as tie
@@ -38,11 +38,11 @@ with-room packet room n h k e fits =
 
 returns : tie.Need-returns
 unfolding outputOf
-returns c = written-numbered _ _ _ _ (sym (too-short _ _ (omega arith))) refl
+returns c = written-answered _ _ _ _ (sym (too-short _ _ (omega arith))) refl
 
 returns-2 : tie.Need-returns-2
 unfolding outputOf
-returns-2 c = written-numbered _ _ _ _ (sym (too-long _ _ (omega arith))) refl
+returns-2 c = written-answered _ _ _ _ (sym (too-long _ _ (omega arith))) refl
 
 escapes-in-requires : tie.Need-escapes-in-requires
 escapes-in-requires c κs = search needs
@@ -61,7 +61,7 @@ returns-3 : tie.Need-returns-3
 unfolding outputOf
 returns-3 c =
     let e = frame-length (c .before .before .before .before .before .before .args .packet .now) in
-    written-numbered _ _ _ _ (sym (no-room _ _ (omega arith) (omega arith) (omega arith))) refl
+    written-answered _ _ _ _ (sym (no-room _ _ (omega arith) (omega arith) (omega arith))) refl
 
 write-frame-requires : tie.Need-write-frame-requires
 write-frame-requires c κs =
@@ -75,7 +75,7 @@ returns-4 : tie.Need-returns-4
 unfolding outputOf
 returns-4 c =
     let e = frame-length (c .before .before .before .before .before .before .before .before .before .before .args .packet .now) in
-    written-numbered _ _ _ _ (with-room _ _ _ (omega arith) (omega arith) (omega arith) (omega arith)) (c .before .before .write-frame .ensures)
+    written-answered _ _ _ _ (with-room _ _ _ (omega arith) (omega arith) (omega arith) (omega arith)) (c .before .before .write-frame .ensures)
 
 pub frame-to-serial-spec : {M : Type 1} → statement M
 frame-to-serial-spec =

@@ -5,7 +5,7 @@ use borrow.Author.Needs.{needs}
 use Rattle.serial.specs.declared.receiver.Outcome.the-variants.{Inconsistent}
 use Rattle.serial.specs.declared.receiver.Receiver.{Receiver}
 use Rattle.serial.specs.Receiver.{consistentOf, stepOf}
-use Rattle.serial.proofs.Answers.{step-numbered}
+use Rattle.serial.proofs.Answers.{step-answered}
 use Rattle.serial.proofs.receiver.Receiver.step.Statement.{statement}
 use Rattle.serial.proofs.receiver.Receiver.step.Tie as tie
 
@@ -31,14 +31,14 @@ fresh-requires c κs = search needs
 returns : tie.Need-returns
 returns c =
     let o = c .before .before .before .advance .result .outcome in
-    step-numbered _ _ _
+    step-answered _ _ _
     (ap (λ (s : Receiver). record { outcome = o; state = s }) (c .with .ensures)
     ∙ c .before .before .before .advance .ensures ∙ ap (stepOf _) (c .before .before .before .before .before .head .ensures))
 
 returns-2 : tie.Need-returns-2
 unfolding stepOf
 returns-2 c =
-    step-numbered _ _ _
+    step-answered _ _ _
     (simp (sym (c .before .before .consistent .ensures) ∙ c .before .if1 .left)
     (ap (λ (s : Receiver). record { outcome = Inconsistent; state = s }) (c .fresh .ensures)))
 

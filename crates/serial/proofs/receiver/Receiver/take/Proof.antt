@@ -26,7 +26,7 @@ slice-aggregate-copy-packet c = search needs
 copy-packet-requires : tie.Need-copy-packet-requires
 copy-packet-requires c κs =
     let t = c .before .before .before .before .before .before .before .take-bytes in
-    let few = subst Fair (c .before .before .before .before .before .reason .given .1) (t .ensures .1) in
+    let few = subst Fair (c .before .before .before .before .before .reason .given .1) (t .ensures .1 .0) in
     let l : 259 ≡ length (t .result .state .stored) = slice-aggregate-copy-packet (c .before) in
     (omega arith, omega arith)
 

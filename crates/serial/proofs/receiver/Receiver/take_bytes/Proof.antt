@@ -6,15 +6,14 @@ use native.Mathlib.Nat.{sub-zero}
 use native.Mathlib.Omega.{arith}
 use lib.ListN.{length, drop, getD}
 use borrow.Author.Needs.{needs}
-use Rattle.serial.specs.declared.receiver.Receiver.{Receiver}
 use Rattle.serial.specs.declared.receiver.Outcome.the-variants.{Nothing, Inconsistent}
 use Rattle.serial.specs.declared.receiver.Stepped.{Stepped}
 use Rattle.serial.specs.Core.{held, heldStep}
 use Rattle.serial.specs.Consistency.{Consistent}
 use Rattle.serial.specs.Receiver.{consistentOf}
-use Rattle.serial.specs.Taker.{Fair, takeFrom}
+use Rattle.serial.specs.Taker.{takeFrom}
 use Rattle.serial.proofs.Keeps.{keeps}
-use Rattle.serial.proofs.TakerLaws.{fair, fair-taken, taken-ended, taken-next, taken-spent}
+use Rattle.serial.proofs.TakerLaws.{Took, taken-ended, taken-from, taken-next, taken-spent, took}
 use Rattle.serial.proofs.receiver.Receiver.take_bytes.Statement.{statement}
 use Rattle.serial.proofs.receiver.Receiver.take_bytes.Tie as tie
 
@@ -22,7 +21,7 @@ abbrev Inv-loop : tie.InvT-loop
 Inv-loop input allowance stored₀ head₀ i₀ stored head i =
     (takeFrom (drop i input) (allowance - i) (held head stored) i ≡ takeFrom input allowance (held head₀ stored₀) 0)
     × (i ≤ length input) × (i ≤ allowance) × Consistent (held head stored)
-    × Fair (takeFrom input allowance (held head₀ stored₀) 0 .reason)
+    × Took input allowance (held head₀ stored₀) (takeFrom input allowance (held head₀ stored₀) 0)
 
 abbrev μ-loop : tie.MeasureT-loop
 μ-loop input allowance stored₀ head₀ i₀ stored head i = length input - i
@@ -39,7 +38,7 @@ loop-holds c =
       omega arith,
       omega arith,
       consistent,
-      fair (a .args .input .now) (a .args .allowance) s 0 consistent (λ i. c .before .before .shared-slice-known .given i .fits),
+      took (a .args .input .now) (a .args .allowance) s consistent (λ i. c .before .before .shared-slice-known .given i .fits),
     )
 
 slice-aggregate-advance : tie.Need-slice-aggregate-advance Inv-loop μ-loop
@@ -86,17 +85,17 @@ returns : tie.Need-returns Inv-loop μ-loop
 returns c =
     let l = c .before in
     let a = c .before .before .before .before .before .args in
-    fair-taken _ _ _
+    taken-from (a .input .now) (a .allowance) _ _ _
     (taken-ended (a .input .now) (a .allowance) (l .loop .i) (held (l .loop .head) (l .loop .stored)) (omega arith)
-    ∙ l .loop .inv .0) (ap (λ (s : Receiver). takeFrom (a .input .now) (a .allowance) s 0) (c .before .before .head .ensures)) (l .loop .inv .4)
+    ∙ l .loop .inv .0) (c .before .before .head .ensures) (l .loop .inv .4)
 
 returns-2 : tie.Need-returns-2 Inv-loop μ-loop
 returns-2 c =
     let l = c .before .before in
     let a = c .before .before .before .before .before .before .args in
-    fair-taken _ _ _
+    taken-from (a .input .now) (a .allowance) _ _ _
     (taken-spent (a .input .now) (a .allowance) (l .loop .i) (held (l .loop .head) (l .loop .stored)) (omega arith) (omega arith)
-    ∙ l .loop .inv .0) (ap (λ (s : Receiver). takeFrom (a .input .now) (a .allowance) s 0) (c .before .before .before .head .ensures)) (l .loop .inv .4)
+    ∙ l .loop .inv .0) (c .before .before .before .head .ensures) (l .loop .inv .4)
 
 returns-3 : tie.Need-returns-3 Inv-loop μ-loop
 returns-3 c =
@@ -105,9 +104,9 @@ returns-3 c =
     let here : l .loop .i < length (a .input .now) = omega arith in
     let allowed : l .loop .i < a .allowance = omega arith in
     let r = c .before .before .before .before .before .advance in
-    fair-taken _ _ _
+    taken-from (a .input .now) (a .allowance) _ _ _
     (taken-next (a .input .now) (a .allowance) (l .loop .i) (held (l .loop .head) (l .loop .stored)) (heldStep (r .result) (r .last .1 .0)) _ here allowed (r .ensures) (c .before .outcome .given .1)
-    ∙ l .loop .inv .0) (ap (λ (s : Receiver). takeFrom (a .input .now) (a .allowance) s 0) (c .before .before .before .before .before .before .before .before .before .before .before .head .ensures)) (l .loop .inv .4)
+    ∙ l .loop .inv .0) (c .before .before .before .before .before .before .before .before .before .before .before .head .ensures) (l .loop .inv .4)
 
 returns-4 : tie.Need-returns-4 Inv-loop μ-loop
 returns-4 c =
@@ -116,9 +115,9 @@ returns-4 c =
     let here : l .loop .i < length (a .input .now) = omega arith in
     let allowed : l .loop .i < a .allowance = omega arith in
     let r = c .before .before .before .before .advance in
-    fair-taken _ _ _
+    taken-from (a .input .now) (a .allowance) _ _ _
     (taken-next (a .input .now) (a .allowance) (l .loop .i) (held (l .loop .head) (l .loop .stored)) (heldStep (r .result) (r .last .1 .0)) Inconsistent here allowed (r .ensures) (c .enum-told2 .given .1)
-    ∙ l .loop .inv .0) (ap (λ (s : Receiver). takeFrom (a .input .now) (a .allowance) s 0) (c .before .before .before .before .before .before .before .before .before .before .head .ensures)) (l .loop .inv .4)
+    ∙ l .loop .inv .0) (c .before .before .before .before .before .before .before .before .before .before .head .ensures) (l .loop .inv .4)
 
 pub take-bytes-spec : {M : Type 1} → statement M
 take-bytes-spec =
