@@ -18,7 +18,7 @@ use Rattle.serial.proofs.FrameLaws.{frame-bytes}
 
 pub three-heard : ThreeHeard
 unfolding outsOf runOf stepOf consistentOf fitsAt rowOf agreesOf placed frames frame escapedAll escaped checkFrom byteStep bitSteps bitStep
-three-heard = refl
+three-heard = (refl, refl)
 
 pub near-misses : NearMisses
 unfolding outsOf stepOf consistentOf fitsAt rowOf agreesOf checkFrom byteStep bitSteps bitStep

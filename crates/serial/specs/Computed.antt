@@ -16,13 +16,13 @@ ending b = 0x01 ∷ 0x0a ∷ 0x09 ∷ 0xc8 ∷ b ∷ []
 
 -- ---- frames that are heard
 
--- case A's packet, with a flag to escape; one whose check is cd7e, so that a check byte is a flag; one of 126 bytes, so that the count is a flag
-abbrev pub three : List (List ℕ)
-three = ending flag ∷ (0x00 ∷ 0x00 ∷ 0x00 ∷ 0x00 ∷ 0x74 ∷ []) ∷ (0x01 ∷ replicate 125 0x00) ∷ []
-
 -- demand 3 at these packets and no history
+abbrev pub Heard : List (List ℕ) → Type 0
+Heard ps = outsOf 0 (runOf freshOf (flags 3)) (frames ps) ≡ placed 0 ps
+
+-- case A's packet, with a flag to escape, and one whose check is cd7e, so that a check byte is a flag; then one of 126 bytes, so that the count is
 abbrev pub ThreeHeard : Type 0
-ThreeHeard = outsOf 0 (runOf freshOf (flags 3)) (frames three) ≡ placed 0 three
+ThreeHeard = Heard (ending flag ∷ (0x00 ∷ 0x00 ∷ 0x00 ∷ 0x00 ∷ 0x74 ∷ []) ∷ []) × Heard ((0x01 ∷ replicate 125 0x00) ∷ [])
 
 -- ---- frames that are nearly so
 
