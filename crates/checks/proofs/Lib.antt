@@ -4,3 +4,6 @@ pub mod Register
 pub mod FrameCheck
 pub mod PacketErrorCode
 pub mod OneResult
+pub mod Bytes
+pub mod Choice
+pub mod Output

@@ -5,4 +5,5 @@ pub mod PacketErrorCode
 pub mod Laws
 pub mod BitOrder
 pub mod Numbers
+pub mod Output
 pub mod OneResult

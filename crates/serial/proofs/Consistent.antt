@@ -1,8 +1,8 @@
 -- What a consistent state says, as facts instead of a test, and the way back: each part of the test is true exactly where its fact holds.
 -- Assumes nothing.
 use Prim.Native.Nat.{ℕ, _+_, _≤_}
-use mathlib.Core.Path.{_≡_, _∙_, ap, ap₂, refl, subst, sym}
-use mathlib.Core.Bool.{Bool, true, false, cond, _&&_, _||_, false≢true}
+use mathlib.Core.Path.{_≡_, _∙_, ap, refl, subst, sym}
+use mathlib.Core.Bool.{true, _&&_, _||_}
 use mathlib.Core.Logic.{_⊎_, ⊎-elim, inl, inr}
 use mathlib.Core.List.{List}
 use native.Mathlib.Nat.{eq-or-lt-of-le}
@@ -10,41 +10,12 @@ use native.Mathlib.Omega.{arith}
 use lib.Dec.{eqb, leb}
 use lib.ListN.{getD}
 use borrow.Author.Tests.{eq-eqb, eqb-true, le-leb, leb-true}
+use Rattle.checks.proofs.Choice.{and, either, first, left, right, second}
 use Rattle.serial.specs.declared.receiver.Position.{Position}
 use Rattle.serial.specs.declared.receiver.Position.the-variants.{FrameSearch, SerialRevision, ByteCount, Data, DataEscaped, Check, FrameEnd}
 use Rattle.serial.specs.declared.receiver.Receiver.{Receiver}
 use Rattle.serial.specs.Frame.{revision}
 use Rattle.serial.specs.Receiver.{consistentOf, counted, fitsAt, inPacket, rowOf, stepOf}
-
--- ---- tests
-
--- what holds of both arms of a test holds of the test's choice
-pub by-cond {ℓ κ} : {A : Type ℓ} (P : A → Type κ) (t : Bool) (x y : A) → (t ≡ true → P x) → (t ≡ false → P y) → P (cond t x y)
-by-cond P true x y f g = f refl
-by-cond P false x y f g = g refl
-
-and : {a b : Bool} → a ≡ true → b ≡ true → (a && b) ≡ true
-and {a} {b} h k = ap₂ (λ (x y : Bool). x && y) h k
-
-pub left : (a b : Bool) → (a && b) ≡ true → a ≡ true
-left true b h = refl
-left false b h = h
-
-pub right : (a b : Bool) → (a && b) ≡ true → b ≡ true
-right true b h = h
-right false b h = absurd (false≢true h)
-
-either : (a b : Bool) → (a || b) ≡ true → (a ≡ true) ⊎ (b ≡ true)
-either true b h = inl refl
-either false b h = inr h
-
-first : (a b : Bool) → a ≡ true → (a || b) ≡ true
-first true b h = refl
-first false b h = absurd (false≢true h)
-
-second : (a b : Bool) → b ≡ true → (a || b) ≡ true
-second true b h = refl
-second false b h = h
 
 -- ---- facts, of a count n, a length l and the stored bytes
 

@@ -7,22 +7,26 @@ use mathlib.Core.List.{List, [], _∷_, _++_, append-assoc, append-nil}
 use native.Mathlib.Omega.{arith}
 use lib.Dec.{eqb}
 use lib.ListN.{length, getD, take, drop, length-append, take-append-drop}
-use lib.Seq.{append-snoc, getD-append-add, take-at, take-append-add}
+use lib.Seq.{append-snoc, getD-append-add, take-at, take-append-add, getD-at}
 use borrow.Author.Tests.{eqb-true}
 use Rattle.checks.specs.FrameCheck.{frameCheck}
 use Rattle.checks.specs.Laws.{Bytes}
+use Rattle.checks.specs.Register.{bitStep, bitSteps, byteStep, checkFrom}
+use Rattle.checks.proofs.Choice.{by-cond, left, right}
+use Rattle.checks.proofs.Bytes.{bytes-back, bytes-front, bytes-append, bytes-each}
 use Rattle.serial.specs.declared.receiver.Position.{Position}
 use Rattle.serial.specs.declared.receiver.Position.the-variants.{FrameSearch, SerialRevision, ByteCount, Data, DataEscaped, Check, FrameEnd}
 use Rattle.serial.specs.declared.receiver.Receiver.{Receiver}
 use Rattle.serial.specs.declared.receiver.Outcome.{Outcome}
 use Rattle.serial.specs.declared.receiver.Outcome.the-variants.{Nothing, Packet, Inconsistent}
 use Rattle.serial.specs.declared.receiver.Stepped.{Stepped}
-use Rattle.serial.specs.Frame.{flag, revision, escapedAll, covered, checkBytes}
-use Rattle.serial.specs.Receiver.{agreesOf, freshOf, handsOut, rowOf, stepOf}
+use Rattle.serial.specs.Computed.{ending}
+use Rattle.serial.specs.Frame.{flag, revision, escapedAll, covered, checkBytes, behindFlag, escaped, frame}
+use Rattle.serial.specs.Receiver.{agreesOf, freshOf, handsOut, rowOf, stepOf, consistentOf, fitsAt}
 use Rattle.serial.specs.Run.{runOf, packetIn, emit, outsOf}
-use Rattle.serial.specs.Converse.{SentAs, OnlyAsSent, AllAsSent, StreamAsSent}
-use Rattle.serial.proofs.Bytes.{bytes-back, bytes-front}
-use Rattle.serial.proofs.Consistent.{FitsAt, by-cond, facts, left, right, row-of}
+use Rattle.serial.specs.Converse.{SentAs, OnlyAsSent, AllAsSent, StreamAsSent, FlagNotNeeded, flagless}
+use Rattle.serial.proofs.FrameLaws.{frame-bytes}
+use Rattle.serial.proofs.Consistent.{FitsAt, facts, row-of}
 use Rattle.serial.proofs.Keeps.{reachable-consistent}
 use Rattle.serial.proofs.Run.{run-append}
 use Rattle.serial.proofs.Trace.{Trace, TraceAt, Within, heard-more, row-traced, stored-length}
@@ -193,3 +197,30 @@ sent-from (b ∷ rest) h bytes =
 pub stream-as-sent : StreamAsSent
 unfolding runOf
 stream-as-sent stream bytes = sent-from stream [] bytes
+
+-- ---- without a flag before the revision
+
+ending-bytes : Bytes (ending 0x00)
+ending-bytes = bytes-each (ending 0x00) (omega arith, (omega arith, (omega arith, (omega arith, (omega arith, tt)))))
+
+flagless-bytes : Bytes flagless
+unfolding frame
+flagless-bytes =
+    bytes-append (take 7 flagless) (behindFlag (ending 0x00))
+    (bytes-each (take 7 flagless) (omega arith, (omega arith, (omega arith, (omega arith, (omega arith, (omega arith, (omega arith, tt))))))))
+    (bytes-back (flag ∷ []) (behindFlag (ending 0x00)) (frame-bytes (ending 0x00) (ending-bytes, omega arith, omega arith)))
+
+flagless-heard : outsOf 0 freshOf flagless ≡ (16, ending 0x00) ∷ []
+unfolding outsOf stepOf consistentOf fitsAt rowOf agreesOf escapedAll escaped checkFrom byteStep bitSteps bitStep
+flagless-heard = refl
+
+-- the byte before the revision is the seventh
+flagless-unframed : (before : List ℕ) → flagless ≡ before ++ frame (ending 0x00) → ⊥
+unfolding frame escapedAll escaped
+flagless-unframed before e =
+    let six : length before ≡ 6 = omega (arith, ap (λ (l : List ℕ). length l) e, length-append before (frame (ending 0x00))) in
+    let seventh : getD flagless 6 0 ≡ flag = ap (λ (l : List ℕ). getD l 6 0) e ∙ getD-at before flag (behindFlag (ending 0x00)) 0 6 six in
+    omega (arith, seventh)
+
+pub flag-not-needed : FlagNotNeeded
+flag-not-needed = (flagless-bytes, flagless-heard, flagless-unframed)

@@ -11,6 +11,8 @@ use lib.ListN.{length, take, drop, length-drop, length-take, take-append-drop}
 use lib.Seq.{length-take-le, take-take}
 use borrow.Author.Tests.{le-ltb}
 use Rattle.checks.specs.Laws.{Bytes}
+use Rattle.checks.proofs.Choice.{by-cond}
+use Rattle.checks.proofs.Bytes.{bytes-take, bytes-drop}
 use Rattle.serial.specs.declared.receiver.Receiver.{Receiver}
 use Rattle.serial.specs.declared.receiver.Outcome.{Outcome}
 use Rattle.serial.specs.declared.receiver.Outcome.the-variants.{Nothing, Packet, Inconsistent}
@@ -21,8 +23,6 @@ use Rattle.serial.specs.Consistency.{Consistent}
 use Rattle.serial.specs.Receiver.{freshOf, stepOf}
 use Rattle.serial.specs.Run.{emit, outsOf, runOf}
 use Rattle.serial.specs.Taker.{afterStep, stop, takeFrom, takenOf}
-use Rattle.serial.proofs.Bytes.{bytes-take, bytes-drop}
-use Rattle.serial.proofs.Consistent.{by-cond}
 use Rattle.serial.proofs.Keeps.{run-keeps}
 use Rattle.serial.proofs.Run.{outs-append, run-append}
 

@@ -13,6 +13,8 @@ use lib.ListN.{length, set}
 use borrow.Author.Tests.{eq-eqb, eqb-false}
 use Rattle.checks.specs.Laws.{Bytes}
 use Rattle.checks.specs.Register.{bitStep, bitSteps, byteStep, checkFrom}
+use Rattle.checks.proofs.Choice.{by-cond}
+use Rattle.checks.proofs.Bytes.{bytes-each, bytes-replicate}
 use Rattle.serial.specs.declared.receiver.Position.{Position}
 use Rattle.serial.specs.declared.receiver.Position.the-variants.{FrameSearch, SerialRevision, ByteCount, Data, DataEscaped, Check, FrameEnd}
 use Rattle.serial.specs.declared.receiver.Receiver.{Receiver}
@@ -22,8 +24,7 @@ use Rattle.serial.specs.Receiver.{agreesOf, consistentOf, fitsAt, freshO
 use Rattle.serial.specs.Run.{runOf, outsOf}
 use Rattle.serial.specs.Consistency.{Consistent}
 use Rattle.serial.specs.Demand3.{placed, flags, Hears, Demand3, TwoFail, HearsFromAny, Demand3Whole, Open, HearsFromOpen}
-use Rattle.serial.proofs.Bytes.{bytes-each, bytes-replicate}
-use Rattle.serial.proofs.Consistent.{FitsAt, by-cond, facts}
+use Rattle.serial.proofs.Consistent.{FitsAt, facts}
 use Rattle.serial.proofs.FrameHeard.{stateOf, frames-give}
 use Rattle.serial.proofs.FrameLaws.{frames-bytes}
 use Rattle.serial.proofs.Keeps.{reachable-consistent, run-keeps}

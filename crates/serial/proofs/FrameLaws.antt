@@ -12,9 +12,9 @@ use borrow.Author.Tests.{eqb-true}
 use Rattle.checks.specs.Laws.{Bytes}
 use Rattle.checks.specs.FrameCheck.{frameCheck, frameRegister}
 use Rattle.checks.proofs.FrameCheck.{frame-below}
+use Rattle.checks.proofs.Bytes.{bytes-none, bytes-cons, bytes-append, bytes-each}
 use Rattle.serial.specs.Frame.{flag, escape, flagEscaped, escapeEscaped, revision, escaped, escapedAll, escapes, covered, checkBytes, behindFlag, frame, frames, Sendable, AllSendable}
 use Rattle.serial.specs.FrameLaws.{FrameLength, FrameMost, FrameBytes, SameFrame, SameBehindFlag}
-use Rattle.serial.proofs.Bytes.{bytes-none, bytes-cons, bytes-append, bytes-each}
 
 pub escaped-all-append : (xs ys : List ℕ) → escapedAll (xs ++ ys) ≡ escapedAll xs ++ escapedAll ys
 unfolding escapedAll

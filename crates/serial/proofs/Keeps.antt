@@ -12,6 +12,7 @@ use lib.Seq.{getD-set-other, getD-set-same}
 use borrow.Author.Tests.{eqb-false, eqb-true}
 use Rattle.checks.specs.Laws.{Bytes}
 use Rattle.checks.specs.Numbers.{Answer, answer, done}
+use Rattle.checks.proofs.Choice.{by-cond}
 use Rattle.serial.specs.declared.receiver.Position.{Position}
 use Rattle.serial.specs.declared.receiver.Position.the-variants.{FrameSearch, SerialRevision, ByteCount, Data, DataEscaped, Check, FrameEnd}
 use Rattle.serial.specs.declared.receiver.Receiver.{Receiver}
@@ -23,7 +24,7 @@ use Rattle.serial.specs.Run.{runOf}
 use Rattle.serial.specs.Answers.{handedAt, outcomeAnswer}
 use Rattle.serial.specs.Consistency.{Consistent, NeverInconsistent, ReachableConsistent, StepKeeps}
 use Rattle.serial.proofs.Answers.{step-answered}
-use Rattle.serial.proofs.Consistent.{Counted, FitsAt, by-cond, facts, holds, row-of}
+use Rattle.serial.proofs.Consistent.{Counted, FitsAt, facts, holds, row-of}
 
 -- a byte stored behind the count leaves revision and count as they are
 counted-stored : (n l b : ℕ) (stored : List ℕ) → 2 ≤ l → Counted n stored → Counted n (set stored l b)

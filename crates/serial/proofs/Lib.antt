@@ -1,5 +1,3 @@
-pub mod AtStart
-pub mod Bytes
 pub mod Computed
 pub mod FrameLaws
 pub mod Consistent

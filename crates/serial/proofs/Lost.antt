@@ -7,13 +7,13 @@ use mathlib.Core.List.{List, [], _∷_, _++_}
 use native.Mathlib.Omega.{arith}
 use lib.ListN.{length, take, replicate, length-replicate}
 use Rattle.checks.specs.Register.{bitStep, bitSteps, byteStep, checkFrom}
+use Rattle.checks.proofs.Bytes.{bytes-append, bytes-each, bytes-replicate}
 use Rattle.serial.specs.declared.receiver.Position.the-variants.{FrameEnd}
 use Rattle.serial.specs.declared.receiver.Receiver.{Receiver}
 use Rattle.serial.specs.Frame.{AllSendable, Sendable, escaped, escapedAll, frame, frames}
 use Rattle.serial.specs.Receiver.{agreesOf, consistentOf, fitsAt, freshOf, rowOf, stepOf}
 use Rattle.serial.specs.Run.{outsOf, runOf}
 use Rattle.serial.specs.Lost.{AllBegin01, LostPacketUnheard, LostWithoutEnd, losing, lostPacket}
-use Rattle.serial.proofs.Bytes.{bytes-append, bytes-each, bytes-replicate}
 use Rattle.serial.proofs.Run.{outs-append}
 
 -- bytes that hand out nothing, and lead to a state from where the rest hands out nothing

@@ -10,6 +10,7 @@ use lib.Seq.{drop-cons, length-take-le, take-nil}
 use borrow.Author.Tests.{le-ltb, lt-ltb}
 use Rattle.checks.specs.Laws.{Bytes}
 use Rattle.checks.specs.Numbers.{answer, done}
+use Rattle.checks.proofs.Choice.{by-cond}
 use Rattle.serial.specs.declared.receiver.Position.{Position}
 use Rattle.serial.specs.declared.receiver.Position.the-variants.{FrameSearch, SerialRevision, ByteCount, Data, DataEscaped, Check, FrameEnd}
 use Rattle.serial.specs.declared.receiver.Receiver.{Receiver}
@@ -24,7 +25,7 @@ use Rattle.serial.specs.Consistency.{Consistent}
 use Rattle.serial.specs.Receiver.{consistentOf, freshOf, handsOut, rowOf, stepOf}
 use Rattle.serial.specs.Run.{emit, outsOf, packetIn}
 use Rattle.serial.specs.Taker.{Fair, afterStep, copiedOf, stop, takeFrom, takenOf}
-use Rattle.serial.proofs.Consistent.{by-cond, facts, row-of}
+use Rattle.serial.proofs.Consistent.{facts, row-of}
 use Rattle.serial.proofs.Keeps.{keeps}
 
 module _ (input : List ℕ) (allowance i : ℕ) (s : Receiver) where

@@ -11,6 +11,7 @@ use lib.Dec.{eqb}
 use lib.ListN.{length, set, take, length-append, length-set}
 use lib.Seq.{length-take-le, take-suc-set}
 use borrow.Author.Tests.{eqb-true}
+use Rattle.checks.proofs.Choice.{by-cond}
 use Rattle.serial.specs.declared.receiver.Position.{Position}
 use Rattle.serial.specs.declared.receiver.Position.the-variants.{FrameSearch, SerialRevision, ByteCount, Data, DataEscaped, Check, FrameEnd}
 use Rattle.serial.specs.declared.receiver.Receiver.{Receiver}
@@ -19,7 +20,7 @@ use Rattle.serial.specs.Frame.{flag, escape, flagEscaped, escapeEscaped,
 use Rattle.serial.specs.Receiver.{byteCountRow, frameEndRow, freshOf, handsOut, moveTo, rowOf, serialRevisionRow, store, storeData}
 use Rattle.serial.specs.Run.{runOf}
 use Rattle.serial.specs.Converse.{Opened}
-use Rattle.serial.proofs.Consistent.{FitsAt, by-cond}
+use Rattle.serial.proofs.Consistent.{FitsAt}
 use Rattle.serial.proofs.FrameLaws.{escaped-all-append}
 
 -- ---- what is told

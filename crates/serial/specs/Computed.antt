@@ -1,14 +1,16 @@
--- Streams whose outcome is computed, step by step, from the definitions: an instance of demand 3, and streams that are nearly frames. They are what
--- an error in a row of the table breaks first. The proofs: `proofs/Computed.antt`. Assumes nothing.
+-- What is computed, step by step, from the definitions: an instance of demand 3, streams that are nearly frames, and a frame written. An error in a
+-- definition breaks these first. The proofs: `proofs/Computed.antt`. Assumes nothing.
 use Prim.Native.Nat.{ℕ, _/_, _%_}
 use mathlib.Core.Path.{_≡_}
 use mathlib.Core.List.{List, [], _∷_, _++_}
 use lib.ListN.{replicate}
 use Rattle.checks.specs.FrameCheck.{frameCheck}
+use Rattle.serial.specs.declared.frame.Written.the-variants.{Done}
 use Rattle.serial.specs.Demand3.{flags, placed}
 use Rattle.serial.specs.Frame.{checkBytes, covered, escape, flag, frames, revision}
 use Rattle.serial.specs.Receiver.{freshOf}
 use Rattle.serial.specs.Run.{outsOf, runOf}
+use Rattle.serial.specs.Writer.{outputOf}
 
 -- a packet of five bytes that ends with b
 abbrev pub ending : ℕ → List ℕ
@@ -40,3 +42,9 @@ NearMisses = (outsOf 0 freshOf (between (0x01 ∷ 0x0a ∷ 0x09 ∷ 0xc8 ∷ esc
     × (outsOf 0 freshOf (between (0x01 ∷ 0x0a ∷ 0x09 ∷ 0xc8 ∷ escape ∷ 0x41 ∷ []) (checkBytes (ending 0x61))) ≡ [])
     × (outsOf 0 freshOf (between (ending 0x00) (0x00 ∷ 0x00 ∷ [])) ≡ [])
     × (outsOf 0 freshOf (between (ending 0x00) (swapped (ending 0x00))) ≡ [])
+
+-- ---- and what is written
+
+-- a writer that answers done and writes nothing does not meet its contract: twelve zeros are not case A's frame
+abbrev pub SomethingWritten : Type 0
+SomethingWritten = outputOf (Done 12) (ending flag) (replicate 12 0x00) ≡ replicate 12 0x00 → ⊥

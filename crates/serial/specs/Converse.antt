@@ -1,5 +1,5 @@
 -- What keeps a stranger out: a packet is handed out only where the last bytes fed are its frame, from the revision to the closing flag.
--- The proofs: `proofs/Converse.antt`, and `proofs/Computed.antt` for the stream at the end. Assumes nothing.
+-- The proofs: `proofs/Converse.antt`. Assumes nothing.
 use Prim.Native.Nat.{ℕ, _+_}
 use mathlib.Core.Path.{_≡_}
 use mathlib.Core.Logic.{_⊎_}

@@ -3,6 +3,7 @@ use Prim.Native.Nat.{ℕ, zero, suc, _+_, _≤_}
 use mathlib.Core.Bool.{cond}
 use mathlib.Core.List.{List, [], _∷_}
 use lib.Dec.{ltb}
+use Rattle.checks.specs.Output.{atStart}
 use Rattle.serial.specs.declared.receiver.Receiver.{Receiver}
 use Rattle.serial.specs.declared.receiver.Outcome.{Outcome}
 use Rattle.serial.specs.declared.receiver.Outcome.the-variants.{Nothing, Packet, Inconsistent}
@@ -11,7 +12,6 @@ use Rattle.serial.specs.declared.taker.Reason.the-variants.{Packet as Pa
 use Rattle.serial.specs.declared.taker.Taken.{Taken}
 use Rattle.serial.specs.Receiver.{stepOf, freshOf, consistentOf}
 use Rattle.serial.specs.Run.{packetIn}
-use Rattle.serial.specs.Writer.{atStart}
 
 abbrev pub stop : Reason → ℕ → Receiver → Taken
 stop why n s = record { reason = why; taken = n; state = s }

@@ -1,16 +1,13 @@
 -- What the frame writer answers and leaves in the output. Assumes nothing.
 use Prim.Native.Nat.{ℕ}
 use mathlib.Core.Bool.{Bool, cond, _&&_}
-use mathlib.Core.List.{List, _++_}
+use mathlib.Core.List.{List}
 use lib.Dec.{leb}
-use lib.ListN.{length, drop}
+use lib.ListN.{length}
+use Rattle.checks.specs.Output.{atStart}
 use Rattle.serial.specs.declared.frame.Written.{Written}
 use Rattle.serial.specs.declared.frame.Written.the-variants.{Done, BadLength, ShortOutput}
 use Rattle.serial.specs.Frame.{frame}
-
--- bytes at the start of an output, whose other bytes keep their content
-abbrev pub atStart : List ℕ → List ℕ → List ℕ
-atStart bytes out = bytes ++ drop (length bytes) out
 
 -- a packet of 5 to 255 bytes
 abbrev pub sendable : List ℕ → Bool

@@ -17,6 +17,7 @@ pub enum Position {
     FrameEnd,
 }
 
+// A receiver's state. Its fields are the caller's to keep; parts that do not fit together are refused by number 9.
 pub struct Receiver {
     pub position: Position,
     pub count: usize,
@@ -93,8 +94,9 @@ impl Receiver {
         }
     }
 
-    // Feeds one byte: the state moves on by the table's row for its position. A packet of n bytes that is handed out stands at the stored bytes
-    // from 2 on until the next byte is fed. An inconsistent state gives number 9 and a fresh state, and the byte is not looked at.
+    // Feeds one byte: the state moves on by the table's row for its position. A packet of n bytes, 1 to 255, that is handed out stands at the stored
+    // bytes from 2 on until the next byte is fed. An inconsistent state is refused (Inconsistent, number 9): a fresh one comes back, and the byte is not
+    // looked at.
     pub fn step(self, b: u8) -> Stepped
         ensures { λ r. ⌜ r ≡ stepOf b self ⌝ }
         ensures { λ r. ⌜ outcomeAnswer (r .outcome) ≡ stepAnswer b self ⌝ }

@@ -8,7 +8,7 @@ ghost use Rattle.serial.specs.Answers.{firstLength, reasonAnswer, takerA
 ghost use Rattle.serial.specs.Receiver.{consistentOf};
 ghost use Rattle.serial.specs.Run.{outsOf};
 ghost use Rattle.serial.specs.Taker.{Fair, copiedOf, takeFrom, takenOf};
-ghost use Rattle.serial.specs.Writer.{atStart};
+ghost use Rattle.checks.specs.Output.{atStart};
 use crate::receiver::Outcome;
 use crate::receiver::Receiver;
 
@@ -64,9 +64,11 @@ impl Receiver {
             match outcome {
                 Outcome::Nothing => {}
                 Outcome::Packet(n) => break Reason::Packet(n),
+                // it never comes: the state stays consistent
                 Outcome::Inconsistent => break Reason::Inconsistent,
             }
         };
+        // written out, since behind a call the checker no longer knows which way the loop was left
         let position = head.position;
         Taken {
             reason,
@@ -80,9 +82,10 @@ impl Receiver {
         }
     }
 
-    // Takes bytes of the input until a packet is handed out, the input ends or the allowance is spent, and says which of these came first. A
-    // packet is copied to the start of the output. An inconsistent state gives number 9 and a fresh state, an output under 255 bytes number 2
-    // and the state that went in; then no byte is taken. Without a packet the output is unchanged, and with one its bytes beyond it.
+    // Takes bytes of the input until a packet is handed out, the input ends or the allowance is spent; if several hold, the first in this order
+    // is the reason. A packet is copied to the start of the output. An inconsistent state is refused (Inconsistent, number 9) and a fresh one comes
+    // back, whatever the output; then an output under 255 bytes is (ShortOutput, number 2), and the state that went in comes back. A refusal takes
+    // no byte. Without a packet the output is unchanged, and with one so are its bytes beyond the packet.
     pub fn take(self, input: &[u8], allowance: usize, out: &mut [u8]) -> Taken
         ensures { λ r. ⌜ r ≡ takenOf (now (input .entry)) allowance (length (now (out .entry))) self ⌝ }
         ensures { λ r. ⌜ now (out .exit) ≡ copiedOf (r .reason) (r .state) (now (out .entry)) ⌝ }

@@ -7,9 +7,9 @@ use native.Mathlib.Omega.{arith}
 use lib.ListN.{length}
 use borrow.Author.Needs.{needs}
 use Rattle.checks.specs.FrameCheck.{frameCheck}
+use Rattle.checks.specs.Output.{atStart}
+use Rattle.checks.proofs.Output.{putAt, length-put, put-put}
 use Rattle.serial.specs.Frame.{flag, revision, escapedAll, covered, frame}
-use Rattle.serial.specs.Writer.{atStart}
-use Rattle.serial.proofs.AtStart.{putAt, length-put, put-put}
 use Rattle.serial.proofs.FrameLaws.{frame-room}
 use Rattle.serial.proofs.frame.write_frame.Statement.{statement}
 use Rattle.serial.proofs.frame.write_frame.Tie as tie

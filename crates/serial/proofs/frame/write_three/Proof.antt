@@ -2,7 +2,7 @@
 use native.Mathlib.Omega.{arith}
 use lib.ListN.{length-set}
 use borrow.Author.Needs.{needs}
-use Rattle.serial.proofs.AtStart.{put-three}
+use Rattle.checks.proofs.Output.{put-three}
 use Rattle.serial.proofs.frame.write_three.Statement.{statement}
 use Rattle.serial.proofs.frame.write_three.Tie as tie
 

@@ -7,8 +7,8 @@ use native.Mathlib.Omega.{arith}
 use lib.ListN.{length, drop, getD, set, take, length-drop, length-set}
 use lib.Seq.{getD-drop}
 use borrow.Author.Needs.{needs}
-use Rattle.serial.specs.Writer.{atStart}
-use Rattle.serial.proofs.AtStart.{start-copied}
+use Rattle.checks.specs.Output.{atStart}
+use Rattle.checks.proofs.Output.{start-copied}
 use Rattle.serial.proofs.taker.copy_packet.Statement.{statement}
 use Rattle.serial.proofs.taker.copy_packet.Tie as tie
 

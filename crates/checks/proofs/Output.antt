@@ -2,18 +2,14 @@
 -- follow one another. A write from a later place on is `putAt`. Each holds since the bytes before the seam and those behind it are apart.
 -- Assumes nothing.
 use Prim.Native.Nat.{ℕ, suc, _+_, _≤_, _<_}
-use mathlib.Core.Path.{_≡_, _∙_, ap, ap₂, refl, sym}
+use mathlib.Core.Path.{_≡_, _∙_, ap, ap₂, sym}
 use mathlib.Core.List.{List, [], _∷_, _++_, append-assoc, append-nil}
 use native.Mathlib.Nat.{le-of-lt}
 use native.Mathlib.Numerals.{add-one}
 use native.Mathlib.Omega.{arith}
 use lib.ListN.{length, getD, set, take, drop, length-append, length-drop, take-append-drop}
 use lib.Seq.{append-snoc, drop-append-add, drop-cons, drop-drop, length-take-le, set-append-seam, take-at, take-suc}
-use Rattle.serial.specs.Writer.{atStart}
-
--- nothing written
-pub start-none : (d : List ℕ) → atStart [] d ≡ d
-start-none d = refl
+use Rattle.checks.specs.Output.{atStart}
 
 -- one byte more: a store right behind what is written
 pub start-next : (xs d : List ℕ) (b : ℕ) → length xs < length d
