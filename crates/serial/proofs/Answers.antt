@@ -1,11 +1,12 @@
--- A step's and the writer's answers have document 01's numbers and values, given exactly when document 01 says so. Assumes nothing.
+-- A step's answer has document 01's number and value, given exactly when document 01 says so; and the writer's answer tells its result.
+-- Assumes nothing.
 use Prim.Native.Nat.{ℕ}
 use mathlib.Core.Path.{_≡_, _∙_, ap, refl}
 use mathlib.Core.Bool.{Bool, true, false, cond}
-use mathlib.Core.List.{List, [], _∷_}
-use lib.Dec.{leb}
-use lib.ListN.{length}
-use Rattle.checks.specs.Numbers.{answer, badLength, done, shortOutput}
+use mathlib.Core.List.{[], _∷_}
+use native.Mathlib.Omega.{arith}
+use lib.ListN.{getD}
+use Rattle.checks.specs.Numbers.{Answer, answer, done}
 use Rattle.serial.specs.declared.frame.Written.{Written}
 use Rattle.serial.specs.declared.frame.Written.the-variants.{Done, BadLength, ShortOutput}
 use Rattle.serial.specs.declared.receiver.Outcome.the-variants.{Inconsistent, Packet}
@@ -13,10 +14,8 @@ use Rattle.serial.specs.declared.receiver.Position.{Position}
 use Rattle.serial.specs.declared.receiver.Position.the-variants.{FrameSearch, SerialRevision, ByteCount, Data, DataEscaped, Check, FrameEnd}
 use Rattle.serial.specs.declared.receiver.Receiver.{Receiver}
 use Rattle.serial.specs.declared.receiver.Stepped.{Stepped}
-use Rattle.serial.specs.Answers.{handedAt, outcomeAnswer, stepAnswer, writerAnswer, writtenAnswer}
-use Rattle.serial.specs.Frame.{frame}
+use Rattle.serial.specs.Answers.{handedAt, outcomeAnswer, stepAnswer, writtenAnswer}
 use Rattle.serial.specs.Receiver.{consistentOf, frameEndRow, freshOf, handsOut, quiet, rowOf, stepOf}
-use Rattle.serial.specs.Writer.{outputOf, sendable, writtenOf}
 
 -- a row hands out what is said of its position, and refuses nothing
 row-answer : (p : Position) (b : ℕ) (s : Receiver) → outcomeAnswer (rowOf p b s .outcome) ≡ answer done (handedAt p b s)
@@ -45,17 +44,15 @@ pub step-answered : (b : ℕ) (s : Receiver) (r : Stepped) → r ≡ stepOf b s 
 unfolding stepOf
 step-answered b s r e = (e, ap (λ (x : Stepped). outcomeAnswer (x .outcome)) e ∙ either-answer b s (consistentOf s))
 
--- ---- the frame writer
+-- ---- the frame writer: its answer tells its result
 
--- its result, the output that it leaves and its answer
-pub written-answered : (packet out left : List ℕ) (r : Written) → r ≡ writtenOf packet (length out) → left ≡ outputOf r packet out
-    → (r ≡ writtenOf packet (length out)) × ((left ≡ outputOf r packet out) × (writtenAnswer r ≡ writerAnswer packet (length out)))
-unfolding writtenOf
-written-answered packet out left r e f =
-    (e, (f, ap writtenAnswer e ∙ go (sendable packet) (leb (length (frame packet)) (length out)) (length (frame packet))))
-  where
-    go : (s t : Bool) (n : ℕ) → writtenAnswer (cond s (cond t (Done n) ShortOutput) BadLength)
-        ≡ cond s (cond t (answer done (n ∷ [])) (answer shortOutput [])) (answer badLength [])
-    go true true n = refl
-    go true false n = refl
-    go false t n = refl
+pub same-written : (x y : Written) → writtenAnswer x ≡ writtenAnswer y → x ≡ y
+same-written (Done n) (Done m) e = ap (λ (a : Answer). Done (getD (a .values) 0 0)) e
+same-written (Done n) BadLength e = absurd (omega (arith, ap (λ (a : Answer). a .number) e))
+same-written (Done n) ShortOutput e = absurd (omega (arith, ap (λ (a : Answer). a .number) e))
+same-written BadLength (Done m) e = absurd (omega (arith, ap (λ (a : Answer). a .number) e))
+same-written BadLength BadLength e = refl
+same-written BadLength ShortOutput e = absurd (omega (arith, ap (λ (a : Answer). a .number) e))
+same-written ShortOutput (Done m) e = absurd (omega (arith, ap (λ (a : Answer). a .number) e))
+same-written ShortOutput BadLength e = absurd (omega (arith, ap (λ (a : Answer). a .number) e))
+same-written ShortOutput ShortOutput e = refl

@@ -19,6 +19,8 @@ use Rattle.serial.specs.declared.receiver.Position.{Position}
 use Rattle.serial.specs.declared.receiver.Position.the-variants.{FrameSearch, SerialRevision, ByteCount, Data, DataEscaped, Check, FrameEnd}
 use Rattle.serial.specs.declared.receiver.Receiver.{Receiver}
 use Rattle.serial.specs.declared.receiver.Stepped.{Stepped}
+use Rattle.serial.specs.Computed.{ending}
+use Rattle.serial.specs.Lost.{cutShort}
 use Rattle.serial.specs.Frame.{flag, escaped, escapedAll, frame, frames}
 use Rattle.serial.specs.Receiver.{agreesOf, consistentOf, fitsAt, freshOf, rowOf, stepOf}
 use Rattle.serial.specs.Run.{runOf, outsOf}
@@ -107,24 +109,17 @@ demand-3-whole h bytes ps sent =
 
 -- ---- two flags
 
--- case N's history, a frame cut short, and case A's packet
-cut : List ℕ
-cut = 0x7e ∷ 0x01 ∷ 0x05 ∷ 0x01 ∷ 0x0a ∷ 0x09 ∷ 0xc8 ∷ 0x00 ∷ []
-
-packet : List ℕ
-packet = 0x01 ∷ 0x0a ∷ 0x09 ∷ 0xc8 ∷ 0x7e ∷ []
-
-none-heard : outsOf 0 (runOf freshOf (cut ++ flags 2)) (frames (packet ∷ [])) ≡ []
-unfolding cut packet outsOf runOf stepOf consistentOf fitsAt rowOf agreesOf frames frame escapedAll escaped checkFrom byteStep bitSteps bitStep
+-- case N's history, and case A's packet
+none-heard : outsOf 0 (runOf freshOf (cutShort ++ flags 2)) (frames (ending flag ∷ [])) ≡ []
+unfolding outsOf runOf stepOf consistentOf fitsAt rowOf agreesOf frames frame escapedAll escaped checkFrom byteStep bitSteps bitStep
 none-heard = refl
 
-one-placed : length (placed 0 (packet ∷ [])) ≡ 1
+one-placed : length (placed 0 (ending flag ∷ [])) ≡ 1
 unfolding placed
 one-placed = refl
 
 pub two-fail : TwoFail
-unfolding cut packet
 two-fail all =
-    let heard = all cut (bytes-each cut (omega arith)) 0 (packet ∷ []) ((bytes-each packet (omega arith), omega arith, omega arith), tt) in
+    let heard = all cutShort (bytes-each cutShort (omega arith)) 0 (ending flag ∷ []) ((bytes-each (ending flag) (omega arith), omega arith, omega arith), tt) in
     let wrong : _≡_ {A = ℕ} 0 1 = cc (heard, none-heard, one-placed) in
     omega arith

@@ -7,6 +7,7 @@ use Rattle.serial.specs.declared.frame.Written.{Written}
 use Rattle.serial.specs.declared.taker.Taken.{Taken}
 use Rattle.serial.specs.Taker.{copiedOf}
 use Rattle.serial.specs.Writer.{outputOf}
+use Rattle.serial.proofs.Answers.{same-written}
 use Rattle.serial.proofs.frame.frame_to_serial.Kinds as frame-to-serial
 use Rattle.serial.proofs.frame.frame_to_serial.Reads as frame-to-serial-reads
 use Rattle.serial.proofs.receiver.Receiver.fresh.Kinds as fresh
@@ -30,8 +31,8 @@ step-one κs a x y e f p q = p .0 ∙ sym (q .0)
 -- the output is the last parameter
 pub frame-to-serial-one : OneOutcome 2 frame-to-serial.ps frame-to-serial.r (λ κs e. now (e .1 .0)) frame-to-serial-reads.Post
 frame-to-serial-one κs a x y e f p q =
-    let same = p .0 ∙ sym (q .0) in
-    (same, p .1 .0 ∙ ap (λ (r : Written). outputOf r (now (a .0)) (now (a .1 .0))) same ∙ sym (q .1 .0))
+    let same = same-written x y (p .0 ∙ sym (q .0)) in
+    (same, p .1 ∙ ap (λ (r : Written). outputOf r (now (a .0)) (now (a .1 .0))) same ∙ sym (q .1))
 
 pub take-one : OneOutcome 2 take.ps take.r (λ κs e. now (e .1 .1 .1 .0)) take-reads.Post
 take-one κs a x y e f p q =

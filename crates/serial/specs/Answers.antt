@@ -28,7 +28,7 @@ writtenAnswer BadLength = answer badLength []
 writtenAnswer ShortOutput = answer shortOutput []
 
 -- of a packet, into an output of `room` bytes; 1 before 2
-abbrev pub writerAnswer : List ℕ → ℕ → Answer
+unfoldable pub writerAnswer : List ℕ → ℕ → Answer
 writerAnswer packet room =
     cond (sendable packet)
     (cond (leb (length (frame packet)) room) (answer done (length (frame packet) ∷ [])) (answer shortOutput []))

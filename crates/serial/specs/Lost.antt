@@ -4,15 +4,20 @@
 -- Assumes nothing.
 use Prim.Native.Nat.{ℕ}
 use mathlib.Core.Path.{_≡_}
-use mathlib.Core.List.{List, [], _∷_}
+use mathlib.Core.List.{List, [], _∷_, _++_}
 use lib.ListN.{length, getD, replicate}
+use Rattle.serial.specs.Demand3.{flags}
 use Rattle.serial.specs.Frame.{flag, frames, AllSendable}
 use Rattle.serial.specs.Receiver.{freshOf}
 use Rattle.serial.specs.Run.{runOf, outsOf}
 
--- case N: a frame cut short, and two flags
+-- case N: a frame cut short
+abbrev pub cutShort : List ℕ
+cutShort = flag ∷ 0x01 ∷ 0x05 ∷ 0x01 ∷ 0x0a ∷ 0x09 ∷ 0xc8 ∷ 0x00 ∷ []
+
+-- and two flags
 abbrev pub losing : List ℕ
-losing = 0x7e ∷ 0x01 ∷ 0x05 ∷ 0x01 ∷ 0x0a ∷ 0x09 ∷ 0xc8 ∷ 0x00 ∷ flag ∷ flag ∷ []
+losing = cutShort ++ flags 2
 
 -- a packet of 126 bytes: 01 and a count of 1 for the first frame inside, its byte, its check bytes, a byte in FrameEnd; 01 and a count of
 -- 119 for the second, whose bytes are the rest and the first check byte

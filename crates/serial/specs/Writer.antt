@@ -1,6 +1,6 @@
--- What the frame writer answers and leaves in the output. Assumes nothing.
+-- Which packets the frame writer takes, and what it leaves in the output; what it answers is in `specs/Answers.antt`. Assumes nothing.
 use Prim.Native.Nat.{ℕ}
-use mathlib.Core.Bool.{Bool, cond, _&&_}
+use mathlib.Core.Bool.{Bool, _&&_}
 use mathlib.Core.List.{List}
 use lib.Dec.{leb}
 use lib.ListN.{length}
@@ -12,11 +12,6 @@ use Rattle.serial.specs.Frame.{frame}
 -- a packet of 5 to 255 bytes
 abbrev pub sendable : List ℕ → Bool
 sendable packet = leb 5 (length packet) && leb (length packet) 255
-
--- into an output of `room` bytes: the packet's length is tested before the room
-unfoldable pub writtenOf : List ℕ → ℕ → Written
-writtenOf packet room =
-    cond (sendable packet) (cond (leb (length (frame packet)) room) (Done (length (frame packet))) ShortOutput) BadLength
 
 -- the output after it
 unfoldable pub outputOf : Written → List ℕ → List ℕ → List ℕ

@@ -9,7 +9,7 @@ ghost use Rattle.checks.specs.FrameCheck.{frameCheck};
 ghost use Rattle.serial.specs.Answers.{writerAnswer, writtenAnswer};
 ghost use Rattle.serial.specs.Frame.{flag, escape, escaped, escapedAll, escapes, covered, frame};
 ghost use Rattle.checks.specs.Output.{atStart};
-ghost use Rattle.serial.specs.Writer.{outputOf, writtenOf};
+ghost use Rattle.serial.specs.Writer.{outputOf};
 use crate::wire::ESCAPE_ESCAPED;
 use crate::wire::FLAG_ESCAPED;
 use crate::wire::FRAMING_ESCAPE;
@@ -121,9 +121,8 @@ fn write_frame(packet: &[u8], out: &mut [u8])
 // 1), and then an output shorter than the frame (ShortOutput, number 2). A refusal writes nothing, and the bytes beyond the frame keep their
 // content.
 pub fn frame_to_serial(packet: &[u8], out: &mut [u8]) -> Written
-    ensures { λ r. ⌜ r ≡ writtenOf (now (packet .entry)) (length (now (out .entry))) ⌝ }
-    ensures { λ r. ⌜ now (out .exit) ≡ outputOf r (now (packet .entry)) (now (out .entry)) ⌝ }
     ensures { λ r. ⌜ writtenAnswer r ≡ writerAnswer (now (packet .entry)) (length (now (out .entry))) ⌝ }
+    ensures { λ r. ⌜ now (out .exit) ≡ outputOf r (now (packet .entry)) (now (out .entry)) ⌝ }
 {
     let count = packet.len();
     if count < 5 {

@@ -1,48 +1,48 @@
 -- `serial::frame_to_serial` meets its contract: its tests are the definition's, in the definition's order, since the length that it computes
 -- is the frame's. Assumes nothing.
 use Prim.Native.Nat.{ℕ, _≤_, _<_}
-use mathlib.Core.Path.{_≡_, _∙_, ap, refl, sym}
-use mathlib.Core.List.{List}
+use mathlib.Core.Path.{_≡_, ap, refl}
+use mathlib.Core.List.{List, [], _∷_}
 use native.Mathlib.Omega.{arith}
 use lib.ListN.{length}
 use borrow.Author.Needs.{needs}
 use borrow.Author.Tests.{le-leb, lt-leb}
-use Rattle.serial.specs.declared.frame.Written.the-variants.{Done, BadLength, ShortOutput}
+use Rattle.checks.specs.Numbers.{answer, badLength, done, shortOutput}
+use Rattle.serial.specs.Answers.{writerAnswer}
 use Rattle.serial.specs.Frame.{frame}
-use Rattle.serial.specs.Writer.{writtenOf, outputOf}
-use Rattle.serial.proofs.Answers.{written-answered}
+use Rattle.serial.specs.Writer.{outputOf}
 use Rattle.serial.proofs.FrameLaws.{escapes-most, frame-length}
 use Rattle.serial.proofs.frame.frame_to_serial.Statement.{statement}
 use Rattle.serial.proofs.frame.frame_to_serial.Tie as tie
 
-too-short : (packet : List ℕ) (room : ℕ) → length packet < 5 → writtenOf packet room ≡ BadLength
-unfolding writtenOf
+too-short : (packet : List ℕ) (room : ℕ) → length packet < 5 → answer badLength [] ≡ writerAnswer packet room
+unfolding writerAnswer
 too-short packet room h = simp (lt-leb 5 (length packet) h)
 
-too-long : (packet : List ℕ) (room : ℕ) → 255 < length packet → writtenOf packet room ≡ BadLength
-unfolding writtenOf
+too-long : (packet : List ℕ) (room : ℕ) → 255 < length packet → answer badLength [] ≡ writerAnswer packet room
+unfolding writerAnswer
 too-long packet room h = simp (le-leb 5 (length packet) (omega arith), lt-leb (length packet) 255 h)
 
 no-room : (packet : List ℕ) (room : ℕ) → 5 ≤ length packet → length packet ≤ 255 → room < length (frame packet)
-    → writtenOf packet room ≡ ShortOutput
-unfolding writtenOf
+    → answer shortOutput [] ≡ writerAnswer packet room
+unfolding writerAnswer
 no-room packet room h k short =
     simp (le-leb 5 (length packet) h, le-leb (length packet) 255 k, lt-leb (length (frame packet)) room short)
 
 with-room : (packet : List ℕ) (room n : ℕ) → 5 ≤ length packet → length packet ≤ 255 → n ≡ length (frame packet) → n ≤ room
-    → Done n ≡ writtenOf packet room
-unfolding writtenOf
+    → answer done (n ∷ []) ≡ writerAnswer packet room
+unfolding writerAnswer
 with-room packet room n h k e fits =
-    ap Done e
-    ∙ sym (simp (le-leb 5 (length packet) h, le-leb (length packet) 255 k, le-leb (length (frame packet)) room (omega arith)))
+    simp (le-leb 5 (length packet) h, le-leb (length packet) 255 k, le-leb (length (frame packet)) room (omega arith))
+    (ap (λ (m : ℕ). answer done (m ∷ [])) e)
 
 returns : tie.Need-returns
 unfolding outputOf
-returns c = written-answered _ _ _ _ (sym (too-short _ _ (omega arith))) refl
+returns c = (too-short _ _ (omega arith), refl)
 
 returns-2 : tie.Need-returns-2
 unfolding outputOf
-returns-2 c = written-answered _ _ _ _ (sym (too-long _ _ (omega arith))) refl
+returns-2 c = (too-long _ _ (omega arith), refl)
 
 escapes-in-requires : tie.Need-escapes-in-requires
 escapes-in-requires c κs = search needs
@@ -61,7 +61,7 @@ returns-3 : tie.Need-returns-3
 unfolding outputOf
 returns-3 c =
     let e = frame-length (c .before .before .before .before .before .before .args .packet .now) in
-    written-answered _ _ _ _ (sym (no-room _ _ (omega arith) (omega arith) (omega arith))) refl
+    (no-room _ _ (omega arith) (omega arith) (omega arith), refl)
 
 write-frame-requires : tie.Need-write-frame-requires
 write-frame-requires c κs =
@@ -75,7 +75,7 @@ returns-4 : tie.Need-returns-4
 unfolding outputOf
 returns-4 c =
     let e = frame-length (c .before .before .before .before .before .before .before .before .before .before .args .packet .now) in
-    written-answered _ _ _ _ (with-room _ _ _ (omega arith) (omega arith) (omega arith) (omega arith)) (c .before .before .write-frame .ensures)
+    (with-room _ _ _ (omega arith) (omega arith) (omega arith) (omega arith), c .before .before .write-frame .ensures)
 
 pub frame-to-serial-spec : {M : Type 1} → statement M
 frame-to-serial-spec =
