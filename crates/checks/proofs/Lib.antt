@@ -3,6 +3,8 @@ pub mod Xor
 pub mod Register
 pub mod FrameCheck
 pub mod PacketErrorCode
+pub mod Part
+pub mod Numbers
 pub mod OneResult
 pub mod Bytes
 pub mod Choice

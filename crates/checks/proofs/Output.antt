@@ -9,7 +9,7 @@ use native.Mathlib.Numerals.{add-one}
 use native.Mathlib.Omega.{arith}
 use lib.ListN.{length, getD, set, take, drop, length-append, length-drop, take-append-drop}
 use lib.Seq.{append-snoc, drop-append-add, drop-cons, drop-drop, length-take-le, set-append-seam, take-at, take-suc}
-use Rattle.checks.specs.Output.{atStart}
+use Rattle.checks.specs.Output.{atStart, putAt}
 
 -- one byte more: a store right behind what is written
 pub start-next : (xs d : List ℕ) (b : ℕ) → length xs < length d
@@ -43,10 +43,6 @@ start-over xs ys d =
     ∙ drop-append-add xs (drop (length xs) d) (length ys)
     ∙ drop-drop (length ys) (length xs) d
     ∙ ap (λ (n : ℕ). drop n d) (sym (length-append xs ys)))
-
--- the bytes ys from a place on; from 0 on it is `atStart ys` by computation
-abbrev pub putAt : ℕ → List ℕ → List ℕ → List ℕ
-putAt place ys d = atStart (take place d ++ ys) d
 
 -- the end of what a put has written
 put-end : (place : ℕ) (ys d : List ℕ) → place ≤ length d → length (take place d ++ ys) ≡ place + length ys

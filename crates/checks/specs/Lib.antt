@@ -6,4 +6,5 @@ pub mod Laws
 pub mod BitOrder
 pub mod Numbers
 pub mod Output
+pub mod Part
 pub mod OneResult

@@ -4,9 +4,10 @@ use Prim.Native.Nat.{ℕ}
 use mathlib.Core.Path.{_≡_, _∙_, ap, refl}
 use mathlib.Core.Bool.{Bool, true, false, cond}
 use mathlib.Core.List.{[], _∷_}
-use native.Mathlib.Omega.{arith}
+use lib.Dec.{eqb}
 use lib.ListN.{getD}
-use Rattle.checks.specs.Numbers.{Answer, answer, done}
+use Rattle.checks.specs.Numbers.{Answer, answer, badLength, done}
+use Rattle.checks.proofs.Numbers.{tells}
 use Rattle.serial.specs.declared.frame.Written.{Written}
 use Rattle.serial.specs.declared.frame.Written.the-variants.{Done, BadLength, ShortOutput}
 use Rattle.serial.specs.declared.receiver.Outcome.the-variants.{Inconsistent, Packet}
@@ -46,13 +47,14 @@ step-answered b s r e = (e, ap (λ (x : Stepped). outcomeAnswer (x .outcome)) e 
 
 -- ---- the frame writer: its answer tells its result
 
+-- the result, back from its answer
+abbrev back : Answer → Written
+back a = cond (eqb (a .number) done) (Done (getD (a .values) 0 0)) (cond (eqb (a .number) badLength) BadLength ShortOutput)
+
+there-and-back : (x : Written) → back (writtenAnswer x) ≡ x
+there-and-back (Done n) = refl
+there-and-back BadLength = refl
+there-and-back ShortOutput = refl
+
 pub same-written : (x y : Written) → writtenAnswer x ≡ writtenAnswer y → x ≡ y
-same-written (Done n) (Done m) e = ap (λ (a : Answer). Done (getD (a .values) 0 0)) e
-same-written (Done n) BadLength e = absurd (omega (arith, ap (λ (a : Answer). a .number) e))
-same-written (Done n) ShortOutput e = absurd (omega (arith, ap (λ (a : Answer). a .number) e))
-same-written BadLength (Done m) e = absurd (omega (arith, ap (λ (a : Answer). a .number) e))
-same-written BadLength BadLength e = refl
-same-written BadLength ShortOutput e = absurd (omega (arith, ap (λ (a : Answer). a .number) e))
-same-written ShortOutput (Done m) e = absurd (omega (arith, ap (λ (a : Answer). a .number) e))
-same-written ShortOutput BadLength e = absurd (omega (arith, ap (λ (a : Answer). a .number) e))
-same-written ShortOutput ShortOutput e = refl
+same-written = tells writtenAnswer back there-and-back

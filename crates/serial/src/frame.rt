@@ -2,13 +2,13 @@
 ghost use Prim.Native.Nat.{_+_, _≤_};
 ghost use mathlib.Core.Path.{_≡_};
 ghost use mathlib.Core.Bool.{cond, _||_};
-ghost use mathlib.Core.List.{[], _∷_, _++_};
+ghost use mathlib.Core.List.{[], _∷_};
 ghost use lib.Dec.{eqb};
-ghost use lib.ListN.{length, take};
+ghost use lib.ListN.{length};
 ghost use Rattle.checks.specs.FrameCheck.{frameCheck};
 ghost use Rattle.serial.specs.Answers.{writerAnswer, writtenAnswer};
 ghost use Rattle.serial.specs.Frame.{flag, escape, escaped, escapedAll, escapes, covered, frame};
-ghost use Rattle.checks.specs.Output.{atStart};
+ghost use Rattle.checks.specs.Output.{atStart, putAt};
 ghost use Rattle.serial.specs.Writer.{outputOf};
 use crate::wire::ESCAPE_ESCAPED;
 use crate::wire::FLAG_ESCAPED;
@@ -53,7 +53,7 @@ fn escapes_in(packet: &[u8]) -> usize
 fn write_byte(b: u8, out: &mut [u8], place: usize) -> usize
     requires { ⌜ place + length (escaped b) ≤ length (now out) ⌝ }
     ensures { λ r. ⌜ r ≡ place + length (escaped b) ⌝ }
-    ensures { λ _. ⌜ now (out .exit) ≡ atStart (take place (now (out .entry)) ++ escaped b) (now (out .entry)) ⌝ }
+    ensures { λ _. ⌜ now (out .exit) ≡ putAt place (escaped b) (now (out .entry)) ⌝ }
 {
     if b == FRAMING_FLAG {
         out[place] = FRAMING_ESCAPE;
@@ -73,7 +73,7 @@ fn write_byte(b: u8, out: &mut [u8], place: usize) -> usize
 fn write_escaped(packet: &[u8], out: &mut [u8], start: usize) -> usize
     requires { ⌜ start + length (escapedAll (now packet)) ≤ length (now out) ⌝ }
     ensures { λ r. ⌜ r ≡ start + length (escapedAll (now (packet .entry))) ⌝ }
-    ensures { λ _. ⌜ now (out .exit) ≡ atStart (take start (now (out .entry)) ++ escapedAll (now (packet .entry))) (now (out .entry)) ⌝ }
+    ensures { λ _. ⌜ now (out .exit) ≡ putAt start (escapedAll (now (packet .entry))) (now (out .entry)) ⌝ }
 {
     let mut place = start;
     let mut i = 0;
@@ -96,7 +96,7 @@ fn check_of(packet: &[u8]) -> u16
 // Three bytes from `place` on.
 fn write_three(out: &mut [u8], place: usize, first: u8, second: u8, third: u8)
     requires { ⌜ place + 3 ≤ length (now out) ⌝ }
-    ensures { λ _. ⌜ now (out .exit) ≡ atStart (take place (now (out .entry)) ++ (first ∷ second ∷ third ∷ [])) (now (out .entry)) ⌝ }
+    ensures { λ _. ⌜ now (out .exit) ≡ putAt place (first ∷ second ∷ third ∷ []) (now (out .entry)) ⌝ }
 {
     out[place] = first;
     out[place + 1] = second;

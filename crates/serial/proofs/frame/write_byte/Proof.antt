@@ -7,7 +7,8 @@ use native.Mathlib.Omega.{arith}
 use lib.ListN.{length, length-set}
 use borrow.Author.Needs.{needs}
 use borrow.Author.Tests.{ne-eqb}
-use Rattle.checks.proofs.Output.{putAt, put-one, put-two}
+use Rattle.checks.specs.Output.{putAt}
+use Rattle.checks.proofs.Output.{put-one, put-two}
 use Rattle.serial.specs.Frame.{flag, escape, flagEscaped, escapeEscaped, escaped}
 use Rattle.serial.proofs.frame.write_byte.Statement.{statement}
 use Rattle.serial.proofs.frame.write_byte.Tie as tie

@@ -8,7 +8,8 @@ use native.Mathlib.Omega.{arith}
 use lib.ListN.{length, drop, getD, drop-of-length-le, length-append}
 use lib.Seq.{drop-cons}
 use borrow.Author.Needs.{needs}
-use Rattle.checks.proofs.Output.{putAt, put-none, put-put, length-put}
+use Rattle.checks.specs.Output.{putAt}
+use Rattle.checks.proofs.Output.{put-none, put-put, length-put}
 use Rattle.serial.specs.Frame.{escaped, escapedAll}
 use Rattle.serial.proofs.frame.write_escaped.Statement.{statement}
 use Rattle.serial.proofs.frame.write_escaped.Tie as tie

@@ -7,8 +7,8 @@ use native.Mathlib.Omega.{arith}
 use lib.ListN.{length}
 use borrow.Author.Needs.{needs}
 use Rattle.checks.specs.FrameCheck.{frameCheck}
-use Rattle.checks.specs.Output.{atStart}
-use Rattle.checks.proofs.Output.{putAt, length-put, put-put}
+use Rattle.checks.specs.Output.{atStart, putAt}
+use Rattle.checks.proofs.Output.{length-put, put-put}
 use Rattle.serial.specs.Frame.{flag, revision, escapedAll, covered, frame}
 use Rattle.serial.proofs.FrameLaws.{frame-room}
 use Rattle.serial.proofs.frame.write_frame.Statement.{statement}
