@@ -9,3 +9,4 @@ pub mod OneResult
 pub mod Bytes
 pub mod Choice
 pub mod Output
+pub mod Last

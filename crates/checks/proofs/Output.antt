@@ -1,14 +1,16 @@
 -- Laws of `atStart`, for loops that write an output byte after byte: what a store behind the bytes makes of it, its length, and writes that
--- follow one another. A write from a later place on is `putAt`. Each holds since the bytes before the seam and those behind it are apart.
--- Assumes nothing.
-use Prim.Native.Nat.{ℕ, suc, _+_, _≤_, _<_}
+-- follow one another. A write from a later place on is `putAt`, also where the rest of the output is lent and comes back. Each holds since the
+-- bytes before the seam and those behind it are apart. Assumes nothing.
+use Prim.Native.Nat.{ℕ, suc, _+_, _-_, _≤_, _<_}
 use mathlib.Core.Path.{_≡_, _∙_, ap, ap₂, sym}
 use mathlib.Core.List.{List, [], _∷_, _++_, append-assoc, append-nil}
 use native.Mathlib.Nat.{le-of-lt}
 use native.Mathlib.Numerals.{add-one}
 use native.Mathlib.Omega.{arith}
-use lib.ListN.{length, getD, set, take, drop, length-append, length-drop, take-append-drop}
+use lib.ListN.{length, getD, set, take, drop, drop-of-length-le, length-append, length-drop, take-append-drop}
 use lib.Seq.{append-snoc, drop-append-add, drop-cons, drop-drop, length-take-le, set-append-seam, take-at, take-suc}
+use borrow.Rule.Slice.PartAt.{part-to-end}
+use borrow.Rule.Slice.PartMut.{putMid}
 use Rattle.checks.specs.Output.{atStart, putAt}
 
 -- one byte more: a store right behind what is written
@@ -95,3 +97,29 @@ pub put-three : (place a b c : ℕ) (d : List ℕ) → place + 3 ≤ length d
 put-three place a b c d h =
     ap (λ (out : List ℕ). set out (place + 2) c) (put-two place a b d (omega arith))
     ∙ put-next place c (a ∷ b ∷ []) d (omega arith)
+
+pub put-four : (place a b c e : ℕ) (d : List ℕ) → place + 4 ≤ length d
+    → set (set (set (set d place a) (place + 1) b) (place + 2) c) (place + 3) e ≡ putAt place (a ∷ b ∷ c ∷ e ∷ []) d
+put-four place a b c e d h =
+    ap (λ (out : List ℕ). set out (place + 3) e) (put-three place a b c d (omega arith))
+    ∙ put-next place e (a ∷ b ∷ c ∷ []) d (omega arith)
+
+-- an output whose bytes from a place on are lent, and come back as `rest`
+rest-back : (place : ℕ) (d rest : List ℕ) → putMid place (length d - place) d rest ≡ take place d ++ rest
+rest-back place d rest =
+    ap (λ (back : List ℕ). take place d ++ back)
+    (ap (λ (behind : List ℕ). rest ++ behind)
+    (drop-of-length-le (drop place d) {i = length d - place} (omega (arith, length-drop place d)))
+    ∙ append-nil rest)
+
+-- bytes at the start of what is lent from a place on: a put at that place
+pub put-lent : (place : ℕ) (ys d rest : List ℕ) → place ≤ length d → rest ≡ atStart ys (take (length d - place) (drop place d))
+    → putMid place (length d - place) d rest ≡ putAt place ys d
+put-lent place ys d rest h e =
+    rest-back place d rest
+    ∙ ap (λ (back : List ℕ). take place d ++ back)
+    (e
+    ∙ ap (atStart ys) (part-to-end d place)
+    ∙ ap (λ (behind : List ℕ). ys ++ behind) (drop-drop (length ys) place d))
+    ∙ sym (append-assoc (take place d) ys (drop (place + length ys) d))
+    ∙ ap (λ (n : ℕ). (take place d ++ ys) ++ drop n d) (sym (put-end place ys d h))

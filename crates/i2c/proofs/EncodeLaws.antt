@@ -1,0 +1,70 @@
+-- Laws of encode's definitions: what each test makes of the answer, and back, what an answer of done tells. The definition tests one thing after
+-- the other, so each test's outcome gives the answer. Assumes nothing.
+use Prim.Native.Nat.{ℕ, _≤_, _<_}
+use mathlib.Core.Path.{_≡_, ap, refl}
+use mathlib.Core.Bool.{Bool, true, false, cond}
+use mathlib.Core.List.{[], _∷_}
+use native.Mathlib.Omega.{arith}
+use lib.Dec.{leb}
+use lib.ListN.{getD}
+use borrow.Author.Tests.{le-leb, leb-true, lt-leb}
+use Rattle.checks.specs.Numbers.{Answer, answer, badAddress, badArgument, done}
+use Rattle.checks.proofs.Choice.{left, right}
+use Rattle.i2c.specs.Encode.{addresses, encodeAnswer, frameSize}
+
+-- of a payload of this size, into an output of `room` bytes
+module _ (own dest size room : ℕ) (pec : Bool) where
+  -- an address over 127: our own, and then the destination
+  pub bad-own : 127 < own → answer badAddress [] ≡ encodeAnswer own dest pec size room
+  unfolding encodeAnswer
+  bad-own h = simp (lt-leb own 127 h)
+
+  pub bad-dest : own ≤ 127 → 127 < dest → answer badAddress [] ≡ encodeAnswer own dest pec size room
+  unfolding encodeAnswer
+  bad-dest h k = simp (le-leb own 127 h, lt-leb dest 127 k)
+
+  -- a payload over 254 bytes, and then an output without room for its frame
+  pub too-long : own ≤ 127 → dest ≤ 127 → 254 < size → answer badArgument [] ≡ encodeAnswer own dest pec size room
+  unfolding encodeAnswer
+  too-long h k long = simp (le-leb own 127 h, le-leb dest 127 k, lt-leb size 254 long)
+
+  pub no-room : own ≤ 127 → dest ≤ 127 → size ≤ 254 → room < frameSize pec size → answer badArgument [] ≡ encodeAnswer own dest pec size room
+  unfolding encodeAnswer
+  no-room h k fits short =
+      simp (le-leb own 127 h, le-leb dest 127 k, le-leb size 254 fits, lt-leb (frameSize pec size) room short)
+
+  -- and where none of these holds
+  pub with-room : own ≤ 127 → dest ≤ 127 → size ≤ 254 → frameSize pec size ≤ room
+      → answer done (frameSize pec size ∷ []) ≡ encodeAnswer own dest pec size room
+  unfolding encodeAnswer
+  with-room h k fits enough =
+      simp (le-leb own 127 h, le-leb dest 127 k, le-leb size 254 fits, le-leb (frameSize pec size) room enough)
+
+  -- what is taken: two addresses, a payload that can be counted, and an output that has room for its frame
+  pub record Taken (n : ℕ) : Type 0 where
+    pub own-fits : own ≤ 127
+    pub dest-fits : dest ≤ 127
+    pub size-fits : size ≤ 254
+    pub whole : frameSize pec size ≡ n
+    pub fits : n ≤ room
+
+  -- and back: what is answered as done was taken
+  pub encode-taken : (n : ℕ) → encodeAnswer own dest pec size room ≡ answer done (n ∷ []) → Taken n
+  unfolding encodeAnswer
+  encode-taken n e = go (addresses own dest) (leb size 254) (leb (frameSize pec size) room) refl refl refl e
+    where
+      go : (both small enough : Bool) → addresses own dest ≡ both → leb size 254 ≡ small → leb (frameSize pec size) room ≡ enough
+          → cond both (cond small (cond enough (answer done (frameSize pec size ∷ [])) (answer badArgument [])) (answer badArgument []))
+          (answer badAddress []) ≡ answer done (n ∷ []) → Taken n
+      go true true true p q r e =
+          let same : frameSize pec size ≡ n = ap (λ (a : Answer). getD (a .values) 0 0) e in
+          record {
+            own-fits = leb-true own 127 (left (leb own 127) (leb dest 127) p);
+            dest-fits = leb-true dest 127 (right (leb own 127) (leb dest 127) p);
+            size-fits = leb-true size 254 q;
+            whole = same;
+            fits = omega (arith, leb-true (frameSize pec size) room r);
+          }
+      go true true false p q r e = absurd (omega (arith, ap (λ (a : Answer). a .number) e))
+      go true false enough p q r e = absurd (omega (arith, ap (λ (a : Answer). a .number) e))
+      go false small enough p q r e = absurd (omega (arith, ap (λ (a : Answer). a .number) e))

@@ -1,0 +1,40 @@
+-- What encode answers, and what it leaves in the output (document 01, 'I2C' and 'Numbers given back', with its order). Assumes nothing.
+use Prim.Native.Nat.{ℕ, _+_}
+use mathlib.Core.Bool.{Bool, cond, _&&_}
+use mathlib.Core.List.{List, [], _∷_}
+use lib.Dec.{leb}
+use Rattle.checks.specs.Numbers.{Answer, answer, badAddress, badArgument, done}
+use Rattle.checks.specs.Output.{atStart}
+use Rattle.i2c.specs.declared.encoder.Encoded.{Encoded}
+use Rattle.i2c.specs.declared.encoder.Encoded.the-variants.{Done, BadAddress, BadArgument}
+use Rattle.i2c.specs.Frame.{frame}
+
+-- the answer in document 01's numbers; the value is the length written
+abbrev pub encodedAnswer : Encoded → Answer
+encodedAnswer (Done n) = answer done (n ∷ [])
+encodedAnswer BadAddress = answer badAddress []
+encodedAnswer BadArgument = answer badArgument []
+
+-- two addresses of 7 bits
+abbrev pub addresses : ℕ → ℕ → Bool
+addresses own dest = leb own 127 && leb dest 127
+
+-- the length of the frame of a payload of this size: four bytes before it, and the PEC behind it
+abbrev pub frameSize : Bool → ℕ → ℕ
+frameSize pec size = cond pec (5 + size) (4 + size)
+
+-- of a payload of this size, into an output of `room` bytes: 4 before 3; of what gives 3, the payload before the output
+unfoldable pub encodeAnswer : ℕ → ℕ → Bool → ℕ → ℕ → Answer
+encodeAnswer own dest pec size room =
+    cond (addresses own dest)
+    (cond (leb size 254)
+    (cond (leb (frameSize pec size) room) (answer done (frameSize pec size ∷ []))
+    (answer badArgument []))
+    (answer badArgument []))
+    (answer badAddress [])
+
+-- the output after it
+unfoldable pub encodeOutput : Encoded → ℕ → ℕ → Bool → List ℕ → List ℕ → List ℕ
+encodeOutput (Done n) own dest pec payload out = atStart (frame own dest pec payload) out
+encodeOutput BadAddress own dest pec payload out = out
+encodeOutput BadArgument own dest pec payload out = out

@@ -1,0 +1,5 @@
+pub mod Frame
+pub mod Encode
+pub mod Decode
+pub mod Laws
+pub mod Computed
