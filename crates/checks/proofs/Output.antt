@@ -69,13 +69,18 @@ pub length-put : (place : ℕ) (ys d : List ℕ) → place + length ys ≤ lengt
 length-put place ys d h =
     length-start (take place d ++ ys) d (omega (arith, put-end place ys d (omega arith)))
 
+-- what stands up to the end of a put
+pub take-put : (place : ℕ) (ys d : List ℕ) → place ≤ length d → take (place + length ys) (putAt place ys d) ≡ take place d ++ ys
+take-put place ys d h =
+    let xs = take place d ++ ys in
+    take-at xs (drop (length xs) d) (place + length ys) (put-end place ys d h)
+
 -- two puts, the second right behind the first
 pub put-put : (place : ℕ) (ys zs d : List ℕ) → place + length ys ≤ length d
     → putAt (place + length ys) zs (putAt place ys d) ≡ putAt place (ys ++ zs) d
 put-put place ys zs d h =
     let xs = take place d ++ ys in
-    ap (λ (front : List ℕ). atStart (front ++ zs) (atStart xs d))
-    (take-at xs (drop (length xs) d) (place + length ys) (put-end place ys d (omega arith)))
+    ap (λ (front : List ℕ). atStart (front ++ zs) (atStart xs d)) (take-put place ys d (omega arith))
     ∙ start-over xs zs d
     ∙ ap (λ (front : List ℕ). atStart front d) (append-assoc (take place d) ys zs)
 

@@ -14,7 +14,7 @@ use Rattle.checks.specs.PacketErrorCode.{pecOf}
 use Rattle.checks.specs.Part.{Part, bytesOf, noPart, part}
 use Rattle.checks.proofs.Last.{front-append, front-last, last-append}
 use Rattle.i2c.specs.Decode.{body, bodyAnswer, butLast, decodeAnswer, payloadPart}
-use Rattle.i2c.specs.Frame.{closed, headed, plain, withPec}
+use Rattle.i2c.specs.Frame.{closed, headed, withPec}
 use Rattle.i2c.specs.Laws.{NotTested, OnlyFrames, PecOnly, WrongPecRefused}
 use Rattle.i2c.proofs.DecodeLaws.{Headed, closed-taken, decode-plain, decode-right, decode-taken, decode-wrong, part-taken}
 
@@ -23,8 +23,7 @@ one-more : (bytes : List ℕ) (b : ℕ) → length (bytes ++ (b ∷ [])) ≡ 0 �
 one-more bytes b e = omega (arith, length-append bytes (b ∷ []))
 
 pub wrong-pec-refused : WrongPecRefused
-wrong-pec-refused own dest b payload wrong =
-    let bytes = plain own dest payload in
+wrong-pec-refused bytes b wrong =
     decode-wrong true (bytes ++ (b ∷ [])) refl (one-more bytes b)
     (λ e. wrong (sym (last-append bytes b) ∙ sym e ∙ ap pecOf (front-append bytes b)))
 

@@ -11,7 +11,7 @@ use Rattle.checks.specs.Part.{bytesOf}
 use Rattle.i2c.specs.declared.encoder.Encoded.the-variants.{Done}
 use Rattle.i2c.specs.Decode.{decodeAnswer, payloadPart}
 use Rattle.i2c.specs.Encode.{encodeAnswer, encodeOutput}
-use Rattle.i2c.specs.Frame.{closed, frame, headed, plain, withPec}
+use Rattle.i2c.specs.Frame.{closed, frame, headed, withPec}
 
 -- the frame has the length that encode answers, and there is room for it
 abbrev pub FrameLength : Type 0
@@ -35,10 +35,9 @@ RoundTrip = (own dest n : ℕ) (pec : Bool) (payload out : List ℕ)
     → encodeAnswer own dest pec (length payload) (length out) ≡ answer done (n ∷ [])
     → Gives pec (take n (encodeOutput (Done n) own dest pec payload out)) own payload
 
--- a frame with another byte as its PEC is refused
+-- with another byte in the place of their PEC, any bytes are refused, a well-formed frame's too
 abbrev pub WrongPecRefused : Type 0
-WrongPecRefused = (own dest b : ℕ) (payload : List ℕ) → (b ≡ pecOf (plain own dest payload) → ⊥)
-    → decodeAnswer true (plain own dest payload ++ (b ∷ [])) ≡ answer invalidInput []
+WrongPecRefused = (bytes : List ℕ) (b : ℕ) → (b ≡ pecOf bytes → ⊥) → decodeAnswer true (bytes ++ (b ∷ [])) ≡ answer invalidInput []
 
 -- with its PEC behind it, any input is decoded as it is without
 abbrev pub PecOnly : Type 0

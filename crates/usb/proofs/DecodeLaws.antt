@@ -1,0 +1,91 @@
+-- What an input is that decode accepts, and a place at which a walk finds a packet: each test of the definition was passed.
+-- Assumes nothing.
+use Prim.Native.Nat.{ℕ, _+_, _-_, _≤_}
+use mathlib.Core.Path.{_≡_, _∙_, ap, refl, sym}
+use mathlib.Core.Bool.{Bool, true, false, cond, not, _&&_}
+use mathlib.Core.List.{List, [], _∷_}
+use native.Mathlib.Omega.{arith}
+use lib.Dec.{eqb, ltb}
+use lib.ListN.{length, getD, drop, length-drop}
+use borrow.Author.Tests.{eqb-true, ltb-false}
+use Rattle.checks.specs.Numbers.{Answer, answer, done, rxFailure}
+use Rattle.usb.specs.declared.decoder.Decoded.{Decoded}
+use Rattle.usb.specs.declared.decoder.Decoded.the-variants.{Packet, RxFailure}
+use Rattle.usb.specs.Decode.{decodeAnswer, decodedAnswer}
+use Rattle.usb.specs.Header.{firstByte, secondByte}
+use Rattle.usb.specs.Walk.{walkAnswer}
+
+-- header and length of an input that is accepted with a packet of n bytes
+pub record Accepted (input : List ℕ) (n : ℕ) : Type 0 where
+  pub first : getD input 0 0 ≡ firstByte
+  pub second : getD input 1 0 ≡ secondByte
+  pub size : getD input 3 0 ≡ n + 4
+  pub fits : 4 + n ≤ length input
+
+-- a refusal is not an acceptance
+pub refused : {C : Type 0} (n : ℕ) → answer rxFailure [] ≡ answer done (n ∷ []) → C
+refused n e = absurd (omega (arith, ap (λ (a : Answer). a .number) e))
+
+-- nor is the end
+pub ended : {C : Type 0} (n : ℕ) → answer done [] ≡ answer done (n ∷ []) → C
+ended n e = absurd (omega (arith, ap (λ (a : Answer). length (a .values)) e))
+
+-- two acceptances of the same length
+pub same-size : (n m : ℕ) → answer done (n ∷ []) ≡ answer done (m ∷ []) → n ≡ m
+same-size n m e = ap (λ (a : Answer). getD (a .values) 0 0) e
+
+pub accepted : (input : List ℕ) (n : ℕ) → decodeAnswer input ≡ answer done (n ∷ []) → Accepted input n
+unfolding decodeAnswer
+accepted s n e =
+    go (ltb (length s) 4) (eqb (getD s 0 0) firstByte) (eqb (getD s 1 0) secondByte) (ltb (getD s 3 0) 4) (ltb (length s) (getD s 3 0)) refl refl refl refl e
+  where
+    go : (short one two under over : Bool)
+        → eqb (getD s 0 0) firstByte ≡ one → eqb (getD s 1 0) secondByte ≡ two
+        → ltb (getD s 3 0) 4 ≡ under → ltb (length s) (getD s 3 0) ≡ over
+        → cond short (answer rxFailure []) (cond (not (one && two)) (answer rxFailure [])
+        (cond under (answer rxFailure []) (cond over (answer rxFailure []) (answer done ((getD s 3 0 - 4) ∷ [])))))
+        ≡ answer done (n ∷ []) → Accepted s n
+    go true one two under over p q h k e = refused n e
+    go false false two under over p q h k e = refused n e
+    go false true false under over p q h k e = refused n e
+    go false true true true over p q h k e = refused n e
+    go false true true false true p q h k e = refused n e
+    go false true true false false p q h k e =
+        let size : getD s 3 0 - 4 ≡ n = same-size (getD s 3 0 - 4) n e in
+        let over : getD s 3 0 ≤ length s = ltb-false (length s) (getD s 3 0) k in
+        let under : 4 ≤ getD s 3 0 = ltb-false (getD s 3 0) 4 h in
+        record {
+          first = eqb-true (getD s 0 0) firstByte p;
+          second = eqb-true (getD s 1 0) secondByte q;
+          size = omega arith;
+          fits = omega arith;
+        }
+
+-- where `decode` gave a packet of n bytes, the definition gives it too
+pub gave : (r : Decoded) (input : List ℕ) (n : ℕ) → decodedAnswer r ≡ decodeAnswer input → r ≡ Packet n → decodeAnswer input ≡ answer done (n ∷ [])
+gave r input n e t = sym e ∙ ap decodedAnswer t
+
+-- then header and packet lie in the input
+pub gave-inside : (r : Decoded) (input : List ℕ) (n : ℕ) → decodedAnswer r ≡ decodeAnswer input → r ≡ Packet n → 4 + n ≤ length input
+gave-inside r input n e t = accepted input n (gave r input n e t) .fits
+
+-- and where it gave none, the definition gives none
+pub gave-none : (r : Decoded) (input : List ℕ) → decodedAnswer r ≡ decodeAnswer input → r ≡ RxFailure → decodeAnswer input ≡ answer rxFailure []
+gave-none r input e t = sym e ∙ ap decodedAnswer t
+
+-- a place at which a walk finds a packet of n bytes: decode accepts what stands from there on, and header and packet lie in the transfer
+pub record FoundAt (transfer : List ℕ) (place n : ℕ) : Type 0 where
+  pub inside : place + (4 + n) ≤ length transfer
+  pub decoded : decodeAnswer (drop place transfer) ≡ answer done (n ∷ [])
+
+pub found : (transfer : List ℕ) (place n : ℕ) → walkAnswer transfer place ≡ answer done (n ∷ []) → FoundAt transfer place n
+unfolding walkAnswer
+found s p n e = go (ltb (length s) p) (eqb p (length s)) refl e
+  where
+    go : (beyond end : Bool) → ltb (length s) p ≡ beyond
+        → cond beyond (answer rxFailure []) (cond end (answer done []) (decodeAnswer (drop p s))) ≡ answer done (n ∷ []) → FoundAt s p n
+    go true end h e = refused n e
+    go false true h e = ended n e
+    go false false h e =
+        let place : p ≤ length s = ltb-false (length s) p h in
+        record { inside = omega (arith, accepted (drop p s) n e .fits, length-drop p s); decoded = e }

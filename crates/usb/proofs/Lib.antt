@@ -1,0 +1,10 @@
+pub mod Answers
+pub mod Computed
+pub mod DecodeLaws
+pub mod Held
+pub mod Limit
+pub mod Offered
+pub mod OneResult
+pub mod OneWalk
+pub mod Transfers
+pub mod WalkLaws

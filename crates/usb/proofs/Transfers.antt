@@ -1,0 +1,289 @@
+-- What `specs/Transfers.antt` states of decode and of a walk over any transfer. An answer of a walk either moves on by a header and a packet that stand there,
+-- or stays. A packet takes four bytes or more, so a walk stays after one answer for each four.
+-- Assumes nothing.
+use Prim.Native.Nat.{ℕ, zero, suc, _+_, _-_, _*_, _≤_, _<_, _/_}
+use mathlib.Core.Path.{_≡_, _∙_, ap, ap₂, refl, subst, sym}
+use mathlib.Core.Bool.{not, _&&_}
+use mathlib.Core.List.{List, [], _∷_, _++_, append-assoc, append-nil}
+use native.Mathlib.Omega.{arith}
+use lib.Dec.{eqb, ltb}
+use lib.ListN.{length, getD, take, drop, length-append, length-drop, take-append-drop}
+use lib.Seq.{drop-append-add, drop-append-seam, drop-cons, drop-drop, length-take-le, take-add, take-append-seam, take-at}
+use borrow.Author.Tests.{eq-eqb, eqb-true, le-ltb, lt-ltb, ne-eqb}
+use borrow.Rule.Slice.PartAt.{part-to-end}
+use Rattle.checks.specs.Numbers.{Answer, answer, done, rxFailure}
+use Rattle.checks.specs.Part.{bytesOf, part}
+use Rattle.checks.proofs.Choice.{by-cond}
+use Rattle.usb.specs.Decode.{decodeAnswer, packetAt, restAt}
+use Rattle.usb.specs.Header.{firstByte, headerWith, secondByte}
+use Rattle.usb.specs.Transfers.{DecodedAs, HeaderDecoded, OnlyHeaders, Joined, none, one-more, toEnd}
+use Rattle.usb.specs.Transfers.{EndIsWhole, JoinedWalked, PlaceBeyond, PlaceStays, WalkEnds, WalkJoined, WalkStays}
+use Rattle.usb.specs.Walk.{Walk, placeAfter, placeBehind, walk, walkAnswer, wholeWalk, yieldedBy}
+use Rattle.usb.proofs.DecodeLaws.{Accepted, accepted, ended, found}
+
+-- the values of equal answers
+values : {a b : Answer} → a ≡ b → a .values ≡ b .values
+values e = ap (λ (a : Answer). a .values) e
+
+-- ---- decode
+
+-- what decode answers of a header before its packet
+decodes : (third : ℕ) (packet rest : List ℕ)
+    → decodeAnswer (headerWith third (length packet) ++ (packet ++ rest)) ≡ answer done (length packet ∷ [])
+unfolding decodeAnswer
+decodes third packet rest =
+    let bytes = headerWith third (length packet) ++ (packet ++ rest) in
+    let joined = length-append packet rest in
+    let long : 4 ≤ length bytes = omega arith in
+    let counted : 4 ≤ length packet + 4 = omega arith in
+    let there : length packet + 4 ≤ length bytes = omega arith in
+    let size : length packet + 4 - 4 ≡ length packet = omega arith in
+    simp (le-ltb _ _ long, le-ltb _ _ counted, le-ltb _ _ there) (ap (λ (n : ℕ). answer done (n ∷ [])) size)
+
+pub header-decoded : HeaderDecoded
+header-decoded third packet rest =
+    let header = headerWith third (length packet) in
+    let bytes = header ++ (packet ++ rest) in
+    let e = values (decodes third packet rest) in (
+      decodes third packet rest,
+      ap (λ (v : List ℕ). bytesOf (packetAt 0 v) bytes) e ∙ take-append-seam packet rest,
+      ap (λ (v : List ℕ). bytesOf (restAt (length bytes) v) bytes) e
+          ∙ part-to-end bytes (4 + length packet)
+          ∙ drop-append-add header (packet ++ rest) (length packet)
+          ∙ drop-append-seam packet rest,
+    )
+
+-- an input that is accepted is a header, the packet and what is behind it
+header-first : (bytes : List ℕ) (n : ℕ) → Accepted bytes n → DecodedAs bytes (take n (drop 4 bytes)) (drop (4 + n) bytes)
+header-first bytes n a =
+    let packet = take n (drop 4 bytes) in
+    let size : length packet ≡ n = length-take-le n (drop 4 bytes) (omega (arith, length-drop 4 bytes)) in
+    record {
+      third = getD bytes 2 0;
+      parts =
+          drop-cons bytes 0 0 (omega arith) ∙ ap₂ _∷_ (a .first)
+          (drop-cons bytes 1 0 (omega arith) ∙ ap₂ _∷_ (a .second)
+          (drop-cons bytes 2 0 (omega arith) ∙ ap (λ (rest : List ℕ). getD bytes 2 0 ∷ rest)
+          (drop-cons bytes 3 0 (omega arith) ∙ ap₂ _∷_ (omega arith)
+          (sym (take-append-drop n (drop 4 bytes)) ∙ ap (λ (rest : List ℕ). packet ++ rest) (drop-drop n 4 bytes)))));
+    }
+
+pub only-headers : OnlyHeaders
+only-headers bytes n e =
+    subst (λ (v : List ℕ). DecodedAs bytes (bytesOf (packetAt 0 v) bytes) (bytesOf (restAt (length bytes) v) bytes)) (sym (values e))
+    (subst (λ (rest : List ℕ). DecodedAs bytes (take n (drop 4 bytes)) rest) (sym (part-to-end bytes (4 + n)))
+    (header-first bytes n (accepted bytes n e)))
+
+-- ---- one answer of a walk
+
+-- what an answer at a place of a transfer can be: a packet, or none, and then it says end only at the transfer's end
+data Stands (transfer : List ℕ) (place : ℕ) (a : Answer) : Type 0 where
+  some-packet : (n : ℕ) → a ≡ answer done (n ∷ []) → Stands transfer place a
+  no-packet : a .values ≡ [] → (a ≡ answer done [] → place ≡ length transfer) → Stands transfer place a
+
+-- a refusal yields none, and does not say end
+refusal : (t : List ℕ) (p : ℕ) → Stands t p (answer rxFailure [])
+refusal t p = no-packet refl (λ e. absurd (omega (arith, ap (λ (a : Answer). a .number) e)))
+
+-- each test of the definition, in its order
+stands : (transfer : List ℕ) (place : ℕ) → Stands transfer place (walkAnswer transfer place)
+unfolding walkAnswer decodeAnswer
+stands t p =
+    let s = drop p t in
+    by-cond (Stands t p) (ltb (length t) p) _ _ (λ _. refusal t p) (λ _.
+    by-cond (Stands t p) (eqb p (length t)) _ _ (λ h. no-packet refl (λ _. eqb-true p (length t) h)) (λ _.
+    by-cond (Stands t p) (ltb (length s) 4) _ _ (λ _. refusal t p) (λ _.
+    by-cond (Stands t p) (not (eqb (getD s 0 0) firstByte && eqb (getD s 1 0) secondByte)) _ _ (λ _. refusal t p) (λ _.
+    by-cond (Stands t p) (ltb (getD s 3 0) 4) _ _ (λ _. refusal t p) (λ _.
+    by-cond (Stands t p) (ltb (length s) (getD s 3 0)) _ _ (λ _. refusal t p) (λ _.
+    some-packet (getD s 3 0 - 4) refl))))))
+
+pub place-stays : PlaceStays
+place-stays t p e = ap (placeBehind p) e
+
+pub place-beyond : PlaceBeyond
+unfolding walkAnswer
+place-beyond t p h =
+    let e : walkAnswer t p ≡ answer rxFailure [] = simp (lt-ltb _ _ h) in
+    (e, place-stays t p (values e))
+
+-- ---- several answers
+
+-- a walk behind one more packet
+abbrev behind : List ℕ → Walk → Walk
+behind packet w = record { packets = packet ∷ w .packets; place = w .place; last = w .last }
+
+-- an answer with these values, and then k more and the last
+abbrev after : List ℕ → ℕ → ℕ → List ℕ → Walk
+after t k p v =
+    let rest = walk k t (placeBehind p v) in
+    record { packets = yieldedBy t (packetAt p v) v ++ rest .packets; place = rest .place; last = rest .last }
+
+-- a walk's first answer, by its values
+first-answer : (t : List ℕ) (k p : ℕ) (v : List ℕ) → walkAnswer t p .values ≡ v → walk (suc k) t p ≡ after t k p v
+unfolding walk
+first-answer t k p v e = ap (after t k p) e
+
+-- a packet, and the walk from the place behind it
+packet-first : (t : List ℕ) (k p n : ℕ) → walkAnswer t p ≡ answer done (n ∷ [])
+    → walk (suc k) t p ≡ behind (bytesOf (part (p + 4) n) t) (walk k t (p + (4 + n)))
+packet-first t k p n e = first-answer t k p (n ∷ []) (values e)
+
+-- where there is none, a walk stays, however many answers there are
+stays : (t : List ℕ) (p : ℕ) → walkAnswer t p .values ≡ [] → (k : ℕ) → walk k t p ≡ walk 0 t p
+stays t p e zero = refl
+stays t p e (suc k) = first-answer t k p [] e ∙ stays t p e k
+
+-- k answers end a walk that has fewer than k + 1 times four bytes before it
+ends : (k : ℕ) (t : List ℕ) (p : ℕ) → length t < p + (4 * k + 4) → walk k t p .last .values ≡ []
+unfolding walk
+ends zero t p h = elim (stands t p) [
+  | some-packet n e ↦ absurd (omega (arith, found t p n e .inside))
+  | no-packet e f ↦ e
+]
+ends (suc k) t p h = elim (stands t p) [
+  | some-packet n e ↦ ap (λ (w : Walk). w .last .values) (packet-first t k p n e) ∙ ends k t (p + (4 + n)) (omega arith)
+  | no-packet e f ↦ ap (λ (w : Walk). w .last .values) (stays t p e (suc k)) ∙ e
+]
+
+pub walk-ends : WalkEnds
+walk-ends t = ends _ t 0 (omega arith)
+
+-- a walk that has ended is not changed by more answers
+ended-stays : (m k : ℕ) (t : List ℕ) (p : ℕ) → k ≤ m → walk k t p .last .values ≡ [] → walk m t p ≡ walk k t p
+unfolding walk
+ended-stays m zero t p h e = stays t p e m
+ended-stays zero (suc k) t p h e = absurd (omega arith)
+ended-stays (suc m) (suc k) t p h e = elim (stands t p) [
+  | some-packet n f ↦
+      let ended : walk k t (p + (4 + n)) .last .values ≡ [] = sym (ap (λ (w : Walk). w .last .values) (packet-first t k p n f)) ∙ e in
+      packet-first t m p n f
+      ∙ ap (behind (bytesOf (part (p + 4) n) t)) (ended-stays m k t (p + (4 + n)) (omega arith) ended)
+      ∙ sym (packet-first t k p n f)
+  | no-packet f g ↦ stays t p f (suc m) ∙ sym (stays t p f (suc k))
+]
+
+pub walk-stays : WalkStays
+walk-stays t k = ended-stays (length t / 4 + k) (length t / 4) t 0 (omega arith) (walk-ends t)
+
+-- ---- the bytes that a walk has gone over
+
+-- its packets with their headers, joined, stand from its first place on up to where it stopped
+record Covered (t : List ℕ) (p : ℕ) (w : Walk) : Type 0 where
+  bytes : List ℕ
+  joined : Joined (w .packets) bytes
+  inside : w .place ≤ length t
+  covers : take p t ++ bytes ≡ take (w .place) t
+
+-- none
+covered-none : (t : List ℕ) (p : ℕ) → p ≤ length t → Covered t p (walk 0 t p)
+unfolding walk
+covered-none t p h = record { bytes = []; joined = none; inside = h; covers = append-nil (take p t) }
+
+-- what stands from a place on at which a packet is found
+found-as : (t : List ℕ) (p n : ℕ) → walkAnswer t p ≡ answer done (n ∷ [])
+    → DecodedAs (drop p t) (bytesOf (part (p + 4) n) t) (drop (4 + n) (drop p t))
+found-as t p n e =
+    subst (λ (s : List ℕ). DecodedAs (drop p t) (take n s) (drop (4 + n) (drop p t))) (drop-drop 4 p t)
+    (header-first (drop p t) n (accepted (drop p t) n (found t p n e .decoded)))
+
+-- one more in front
+covered-more : (t : List ℕ) (p n : ℕ) (w : Walk) → walkAnswer t p ≡ answer done (n ∷ [])
+    → Covered t (p + (4 + n)) w → Covered t p (behind (bytesOf (part (p + 4) n) t) w)
+covered-more t p n w e c =
+    let packet = bytesOf (part (p + 4) n) t in
+    let f = found t p n e in
+    let d = found-as t p n e in
+    let size : length packet ≡ n = length-take-le n (drop (p + 4) t) (omega (arith, length-drop (p + 4) t)) in
+    let front = headerWith (d .third) (length packet) ++ packet in
+    let there : take (4 + n) (drop p t) ≡ front = ap (take (4 + n)) (d .parts) ∙ take-at front (drop (4 + n) (drop p t)) (4 + n) (omega arith) in
+    record {
+      bytes = front ++ c .bytes;
+      joined = one-more (d .third) packet (w .packets) (c .bytes) (c .joined);
+      inside = c .inside;
+      covers =
+          sym (append-assoc (take p t) front (c .bytes))
+          ∙ ap (λ (s : List ℕ). s ++ c .bytes) (ap (λ (s : List ℕ). take p t ++ s) (sym there) ∙ sym (take-add p (4 + n) t))
+          ∙ c .covers;
+    }
+
+-- a walk from any place of the transfer
+covered : (k : ℕ) (t : List ℕ) (p : ℕ) → p ≤ length t → Covered t p (walk k t p)
+covered zero t p h = covered-none t p h
+covered (suc k) t p h = elim (stands t p) [
+  | some-packet n e ↦
+      subst (Covered t p) (sym (packet-first t k p n e))
+      (covered-more t p n (walk k t (p + (4 + n))) e (covered k t (p + (4 + n)) (found t p n e .inside)))
+  | no-packet e f ↦ subst (Covered t p) (sym (stays t p e (suc k))) (covered-none t p h)
+]
+
+pub walk-joined : WalkJoined
+walk-joined t =
+    let c = covered (length t / 4) t 0 (omega arith) in
+    (c .inside, subst (Joined (wholeWalk t .packets)) (c .covers) (c .joined))
+
+-- ---- the last answer
+
+-- it is the one at the place where the walk stopped
+last-there : (k : ℕ) (t : List ℕ) (p : ℕ) → walk k t p .last ≡ walkAnswer t (walk k t p .place)
+unfolding walk
+last-there zero t p = refl
+last-there (suc k) t p = last-there k t (placeAfter t p)
+
+-- an answer that says end is given at the end only
+ends-there : (t : List ℕ) (p : ℕ) → walkAnswer t p ≡ answer done [] → p ≡ length t
+ends-there t p h = elim (stands t p) [
+  | some-packet n e ↦ ended n (sym h ∙ e)
+  | no-packet e f ↦ f h
+]
+
+pub end-is-whole : EndIsWhole
+end-is-whole t e = ends-there t (wholeWalk t .place) (sym (last-there (length t / 4) t 0) ∙ e)
+
+-- ---- a walk over joined packets
+
+-- at the end of a transfer it says end
+at-end : (t : List ℕ) → walkAnswer t (length t) ≡ answer done []
+unfolding walkAnswer
+at-end t =
+    let h : length t ≤ length t = omega arith in
+    simp (le-ltb (length t) (length t) h, eq-eqb (length t) (length t) refl)
+
+-- a packet behind its header, whatever stands before and behind them, is found
+finds : (third : ℕ) (before p rest : List ℕ)
+    → walkAnswer (before ++ (headerWith third (length p) ++ (p ++ rest))) (length before) ≡ answer done (length p ∷ [])
+unfolding walkAnswer
+finds third before p rest =
+    let from-here = headerWith third (length p) ++ (p ++ rest) in
+    let sum = length-append before from-here in
+    let inside : length before ≤ length (before ++ from-here) = omega arith in
+    let not-end : length before ≡ length (before ++ from-here) → ⊥ = λ e. omega arith in
+    simp (le-ltb _ _ inside, ne-eqb _ _ not-end) (ap decodeAnswer (drop-append-seam before from-here) ∙ decodes third p rest)
+
+-- from behind any bytes, one answer for each packet
+walked-from : {ps : List (List ℕ)} {bytes : List ℕ} → Joined ps bytes → (before : List ℕ)
+    → walk (length ps) (before ++ bytes) (length before) ≡ toEnd ps (length (before ++ bytes))
+unfolding walk
+walked-from none before =
+    subst (λ (t : List ℕ). walk 0 t (length before) ≡ toEnd [] (length t)) (sym (append-nil before))
+    (ap (λ (a : Answer). record { packets = []; place = length before; last = a }) (at-end before))
+walked-from (one-more third p ps bytes j) before =
+    let framed = headerWith third (length p) ++ p in
+    let t = before ++ (framed ++ bytes) in
+    let next : length (before ++ framed) ≡ length before + (4 + length p) = omega (arith, length-append before framed) in
+    let packet = ap (take (length p)) (drop-append-add before (framed ++ bytes) 4) ∙ take-append-seam p bytes in
+    packet-first t (length ps) (length before) (length p) (finds third before p bytes)
+    ∙ ap₂ behind packet
+    (ap (walk (length ps) t) (sym next)
+    ∙ subst (λ (s : List ℕ). walk (length ps) s (length (before ++ framed)) ≡ toEnd ps (length s)) (append-assoc before framed bytes)
+    (walked-from j (before ++ framed)))
+
+-- each packet has the four bytes of its header
+four-each : {ps : List (List ℕ)} {bytes : List ℕ} → Joined ps bytes → 4 * length ps ≤ length bytes
+four-each none = omega arith
+four-each (one-more third p ps bytes j) = omega (arith, four-each j, length-append p bytes)
+
+pub joined-walked : JoinedWalked
+joined-walked ps t j =
+    let w = walked-from j [] in
+    ended-stays (length t / 4) (length ps) t 0 (omega (arith, four-each j)) (ap (λ (v : Walk). v .last .values) w) ∙ w

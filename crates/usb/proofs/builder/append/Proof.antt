@@ -1,0 +1,144 @@
+-- `append` meets its contract: its tests are the definition's, and what `put` writes into the part behind the used bytes is written there in the
+-- output. Assumes nothing.
+use Prim.Native.Nat.{ℕ, _+_, _-_, _≤_, _<_}
+use mathlib.Core.Path.{_≡_, _∙_, ap, ap₂, refl, sym}
+use mathlib.Core.Bool.{Bool, true, false, cond, _&&_}
+use mathlib.Core.List.{List, []}
+use native.Mathlib.Omega.{arith}
+use lib.Dec.{leb}
+use lib.ListN.{drop, length, take}
+use borrow.Author.Needs.{needs}
+use borrow.Author.Tests.{le-leb, leb-true, lt-leb}
+use borrow.Rule.Slice.PartMut.{putMid}
+use Rattle.checks.specs.Numbers.{Answer, answer, badPacket, done, noRoom}
+use Rattle.checks.specs.Output.{atStart, putAt}
+use Rattle.checks.proofs.Choice.{and}
+use Rattle.checks.proofs.Output.{put-lent}
+use Rattle.usb.specs.Builder.{appendAnswer, appendOutput, fits, limit, usedAfter}
+use Rattle.usb.specs.Header.{framed, sendable}
+use Rattle.usb.proofs.Limit.{limit-least, limit-most, limit-room}
+use Rattle.usb.proofs.builder.append.Statement.{statement}
+use Rattle.usb.proofs.builder.append.Tie as tie
+
+-- the two tests below a limit are one
+below : (used size most : ℕ) → used + size ≤ most → (leb used most && leb size (most - used)) ≡ true
+below used size most h = and (le-leb used most (omega arith)) (le-leb size (most - used) (omega arith))
+
+not-below : (used size most : ℕ) → most < used + size → (leb used most && leb size (most - used)) ≡ false
+not-below used size most h = go (leb used most) refl
+  where
+    go : (t : Bool) → leb used most ≡ t → (t && leb size (most - used)) ≡ false
+    go true e = lt-leb size (most - used) (omega (arith, leb-true used most e))
+    go false e = refl
+
+-- an answer, a used count and an output are what the definitions say
+abbrev Leaves : List ℕ → List ℕ → ℕ → Answer → ℕ → List ℕ → Type 0
+Leaves packet out used a n after = (a ≡ appendAnswer (length packet) used (length out))
+    × ((n ≡ usedAfter (length packet) used (length out)) × (after ≡ appendOutput packet used out))
+
+-- by the two tests on the packet and on the room
+by-tests : (packet out : List ℕ) (used : ℕ) (s f : Bool) → sendable (length packet) ≡ s → fits (length packet) used (length out) ≡ f
+    → Leaves packet out used (cond s (cond f (answer done []) (answer noRoom [])) (answer badPacket []))
+    (cond (s && f) (used + (length packet + 4)) used) (cond (s && f) (putAt used (framed packet) out) out)
+unfolding appendAnswer usedAfter appendOutput
+by-tests packet out used s f h k =
+    let both = ap₂ (λ (x y : Bool). x && y) (sym h) (sym k) in (
+      ap₂ (λ (x y : Bool). cond x (cond y (answer done []) (answer noRoom [])) (answer badPacket [])) (sym h) (sym k),
+      (ap (λ (t : Bool). cond t (used + (length packet + 4)) used) both, ap (λ (t : Bool). cond t (putAt used (framed packet) out) out) both),
+    )
+
+no-room : (packet out : List ℕ) (used : ℕ) → length packet ≤ 251 → limit (length out) < used + (length packet + 4)
+    → Leaves packet out used (answer noRoom []) used out
+no-room packet out used small full =
+    by-tests packet out used true false (le-leb (length packet) 251 small) (not-below used (length packet + 4) (limit (length out)) full)
+
+-- what is written into the part behind the used bytes is written there in the output
+with-room : (packet out : List ℕ) (used : ℕ) (back : List ℕ) → length packet ≤ 251
+    → used + (length packet + 4) ≤ length out → used + (length packet + 4) ≤ 512 → back ≡ atStart (framed packet) (take (length out - used) (drop used out))
+    → Leaves packet out used (answer done []) (used + (length packet + 4)) (putMid used (length out - used) out back)
+with-room packet out used back small room most e =
+    let free = below used (length packet + 4) (limit (length out)) (limit-least (used + (length packet + 4)) (length out) room most) in
+    let all = by-tests packet out used true true (le-leb (length packet) 251 small) free in
+    (all .0, (all .1 .0, put-lent used (framed packet) out back (omega arith) e ∙ all .1 .1))
+
+returns : tie.Need-returns
+returns c =
+    let a = c .before .before .before .args in
+    by-tests (a .packet .now) (a .out .now) (a .used) false _ (lt-leb _ _ (c .if1 .taken)) refl
+
+returns-2 : tie.Need-returns-2
+returns-2 c =
+    let out = c .before .before .before .before .args .out .now in
+    no-room _ out _ (omega arith) (omega (arith, limit-room (length out)))
+
+returns-3 : tie.Need-returns-3
+returns-3 c =
+    let out = c .before .before .before .before .before .args .out .now in
+    no-room _ out _ (omega arith) (omega (arith, limit-most (length out)))
+
+sub-if4 : tie.Need-sub-if4
+sub-if4 c = search needs
+
+add-if4 : tie.Need-add-if4
+add-if4 c = search needs
+
+returns-4 : tie.Need-returns-4
+returns-4 c =
+    let out = c .before .before .before .before .before .before .args .out .now in
+    no-room _ out _ (omega arith) (omega (arith, limit-room (length out)))
+
+add-if5 : tie.Need-add-if5
+add-if5 c = search needs
+
+returns-5 : tie.Need-returns-5
+returns-5 c =
+    let out = c .before .before .before .before .before .before .before .args .out .now in
+    no-room _ out _ (omega arith) (omega (arith, limit-most (length out)))
+
+sub-put : tie.Need-sub-put
+sub-put c = search needs
+
+part-put-start : tie.Need-part-put-start
+part-put-start c = search needs
+
+part-put-end : tie.Need-part-put-end
+part-put-end c = search needs
+
+put-requires : tie.Need-put-requires
+put-requires c κs = search needs
+
+add-t7 : tie.Need-add-t7
+add-t7 c = search needs
+
+add-t11 : tie.Need-add-t11
+add-t11 c = search needs
+
+same-length : tie.Need-same-length
+same-length c = search needs
+
+returns-6 : tie.Need-returns-6
+returns-6 c =
+    let p = c .before .before in
+    let a = p .before .before .before .before .before .before .before .before .before .args in
+    with-room (a .packet .now) (a .out .now) (a .used) (p .put .last .1 .0) (omega arith) (omega arith) (omega arith) (p .put .ensures)
+
+pub append-spec : {M : Type 1} → statement M
+append-spec =
+    tie.close
+    (tie.spec
+    returns
+    returns-2
+    returns-3
+    sub-if4
+    add-if4
+    returns-4
+    add-if5
+    returns-5
+    sub-put
+    part-put-start
+    part-put-end
+    put-requires
+    add-t7
+    add-t11
+    same-length
+    returns-6)

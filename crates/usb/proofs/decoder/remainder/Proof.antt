@@ -1,0 +1,65 @@
+-- `remainder` meets its contract: where decode gives a length, header and packet lie in the input, and what is behind them is the remainder.
+-- Assumes nothing.
+use mathlib.Core.Path.{refl}
+use native.Mathlib.Omega.{arith}
+use borrow.Author.Needs.{needs}
+use Rattle.checks.specs.Part.{noPart}
+use Rattle.checks.proofs.Part.{empty-part}
+use Rattle.usb.proofs.DecodeLaws.{gave, gave-inside, gave-none}
+use Rattle.usb.proofs.decoder.remainder.Statement.{statement}
+use Rattle.usb.proofs.decoder.remainder.Tie as tie
+
+decode-requires : tie.Need-decode-requires
+decode-requires c κs = search needs
+
+enum-known-n : tie.Need-enum-known-n
+enum-known-n c = search needs
+
+add-end : tie.Need-add-end
+add-end c =
+    let l = c .before in
+    omega (arith, gave-inside _ _ _ (l .before .before .decode .ensures) (l .n .given .1))
+
+sub-result : tie.Need-sub-result
+sub-result c =
+    let l = c .before in
+    omega (arith, gave-inside _ _ _ (l .before .before .decode .ensures) (l .n .given .1))
+
+part-result-start : tie.Need-part-result-start
+part-result-start c =
+    let l = c .before in
+    omega (arith, gave-inside _ _ _ (l .before .before .decode .ensures) (l .n .given .1))
+
+part-result-end : tie.Need-part-result-end
+part-result-end c = search needs
+
+enum-told : tie.Need-enum-told
+enum-told c = search needs
+
+slice-aggregate-result : tie.Need-slice-aggregate-result
+slice-aggregate-result c = search needs
+
+returns : tie.Need-returns
+returns c =
+    let l = c .before .before in
+    rw (gave _ _ _ (l .before .before .decode .ensures) (l .n .given .1)) (refl, refl)
+
+returns-2 : tie.Need-returns-2
+returns-2 c =
+    let l = c .before in
+    rw (gave-none _ _ (l .before .before .decode .ensures) (l .enum-told .given .1)) (empty-part (l .before .before .before .before .args .input) noPart refl)
+
+pub remainder-spec : {M : Type 1} → statement M
+remainder-spec =
+    tie.close
+    (tie.spec
+    decode-requires
+    enum-known-n
+    add-end
+    sub-result
+    part-result-start
+    part-result-end
+    enum-told
+    slice-aggregate-result
+    returns
+    returns-2)

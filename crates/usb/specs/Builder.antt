@@ -1,0 +1,42 @@
+-- What the builder answers, and what it leaves: the used count and the output (document 01, 'USB' and 'Numbers given back', with its order).
+-- Assumes nothing.
+use Prim.Native.Nat.{ℕ, _+_, _-_}
+use mathlib.Core.Bool.{Bool, cond, _&&_}
+use mathlib.Core.List.{List, []}
+use lib.Dec.{leb}
+use lib.ListN.{length}
+use Rattle.checks.specs.Numbers.{Answer, answer, badPacket, done, noRoom}
+use Rattle.checks.specs.Output.{putAt}
+use Rattle.usb.specs.declared.builder.Appended.{Appended}
+use Rattle.usb.specs.declared.builder.Appended.the-variants.{Done, BadPacket, NoRoom}
+use Rattle.usb.specs.Header.{framed, sendable}
+
+-- the answer in document 01's numbers
+abbrev pub appendedAnswer : Appended → Answer
+appendedAnswer Done = answer done []
+appendedAnswer BadPacket = answer badPacket []
+appendedAnswer NoRoom = answer noRoom []
+
+-- the smaller of a buffer's length and 512
+abbrev pub limit : ℕ → ℕ
+limit room = cond (leb room 512) room 512
+
+-- below it there is room for header and packet behind the used bytes
+abbrev pub fits : ℕ → ℕ → ℕ → Bool
+fits size used room = leb used (limit room) && leb (size + 4) (limit room - used)
+
+-- of a packet of this size, with `used` bytes of a buffer of `room` bytes used: 6 before 8
+unfoldable pub appendAnswer : ℕ → ℕ → ℕ → Answer
+appendAnswer size used room = cond (sendable size) (cond (fits size used room) (answer done []) (answer noRoom [])) (answer badPacket [])
+
+-- a packet that is taken
+abbrev pub takes : ℕ → ℕ → ℕ → Bool
+takes size used room = sendable size && fits size used room
+
+-- the used count after it
+unfoldable pub usedAfter : ℕ → ℕ → ℕ → ℕ
+usedAfter size used room = cond (takes size used room) (used + (size + 4)) used
+
+-- the output after it
+unfoldable pub appendOutput : List ℕ → ℕ → List ℕ → List ℕ
+appendOutput packet used out = cond (takes (length packet) used (length out)) (putAt used (framed packet) out) out

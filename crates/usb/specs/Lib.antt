@@ -1,0 +1,6 @@
+pub mod Header
+pub mod Decode
+pub mod Builder
+pub mod Walk
+pub mod Transfers
+pub mod Computed

@@ -1,0 +1,109 @@
+-- What is proved of the walker over whole transfers, and of walker and builder together. The proofs: `proofs/Transfers.antt` and `proofs/Offered.antt`.
+-- Assumes nothing.
+use Prim.Native.Nat.{ℕ, _+_, _≤_, _<_, _/_}
+use mathlib.Core.Path.{_≡_}
+use mathlib.Core.Bool.{cond}
+use mathlib.Core.List.{List, [], _∷_, _++_}
+use lib.ListN.{length, take}
+use Rattle.checks.specs.Numbers.{answer, done, rxFailure}
+use Rattle.checks.specs.Part.{bytesOf}
+use Rattle.usb.specs.Builder.{appendOutput, takes, usedAfter}
+use Rattle.usb.specs.Decode.{decodeAnswer, packetPart, remainderPart}
+use Rattle.usb.specs.Header.{framed, headerWith}
+use Rattle.usb.specs.Walk.{Walk, placeAfter, walk, walkAnswer, wholeWalk}
+
+-- ---- decode
+
+-- what decode gives of some bytes: a packet and a remainder
+abbrev pub Gives : List ℕ → List ℕ → List ℕ → Type 0
+Gives bytes packet remainder = (decodeAnswer bytes ≡ answer done (length packet ∷ []))
+    × (bytesOf (packetPart bytes) bytes ≡ packet) × (bytesOf (remainderPart bytes) bytes ≡ remainder)
+
+-- a packet behind its header, with any third byte and anything behind it, is given back
+abbrev pub HeaderDecoded : Type 0
+HeaderDecoded = (third : ℕ) (packet rest : List ℕ) → Gives (headerWith third (length packet) ++ (packet ++ rest)) packet rest
+
+-- nothing else is accepted: what decode takes is a header with some third byte, the packet and the remainder
+pub record DecodedAs (bytes packet remainder : List ℕ) : Type 0 where
+  pub third : ℕ
+  pub parts : bytes ≡ headerWith third (length packet) ++ (packet ++ remainder)
+
+abbrev pub OnlyHeaders : Type 0
+OnlyHeaders = (bytes : List ℕ) (n : ℕ) → decodeAnswer bytes ≡ answer done (n ∷ [])
+    → DecodedAs bytes (bytesOf (packetPart bytes) bytes) (bytesOf (remainderPart bytes) bytes)
+
+-- ---- a walk over any transfer
+
+-- packets with their headers, joined, whatever each third byte is
+pub data Joined : List (List ℕ) → List ℕ → Type 0 where
+  none : Joined [] []
+  one-more : (third : ℕ) (packet : List ℕ) (packets : List (List ℕ)) (bytes : List ℕ) → Joined packets bytes
+      → Joined (packet ∷ packets) (headerWith third (length packet) ++ (packet ++ bytes))
+
+-- a walk that yields these packets and then says end, at this place
+abbrev pub toEnd : List (List ℕ) → ℕ → Walk
+toEnd ps place = record { packets = ps; place = place; last = answer done [] }
+
+-- it ends: after at most one packet for each four bytes the answer is end or 7
+abbrev pub WalkEnds : Type 0
+WalkEnds = (transfer : List ℕ) → wholeWalk transfer .last .values ≡ []
+
+-- and then each later answer is the same, and nothing more is yielded
+abbrev pub WalkStays : Type 0
+WalkStays = (transfer : List ℕ) (k : ℕ) → walk (length transfer / 4 + k) transfer 0 ≡ wholeWalk transfer
+
+-- where an answer yields nothing, the place stays; so it does beyond the transfer, where the answer is 7
+abbrev pub PlaceStays : Type 0
+PlaceStays = (transfer : List ℕ) (place : ℕ) → walkAnswer transfer place .values ≡ [] → placeAfter transfer place ≡ place
+
+abbrev pub PlaceBeyond : Type 0
+PlaceBeyond = (transfer : List ℕ) (place : ℕ) → length transfer < place
+    → (walkAnswer transfer place ≡ answer rxFailure []) × (placeAfter transfer place ≡ place)
+
+-- its packets with their headers, joined, are the transfer up to the place where it stopped
+abbrev pub WalkJoined : Type 0
+WalkJoined = (transfer : List ℕ) → (wholeWalk transfer .place ≤ length transfer)
+    × Joined (wholeWalk transfer .packets) (take (wholeWalk transfer .place) transfer)
+
+-- and where the last answer is end, they are the whole transfer
+abbrev pub EndIsWhole : Type 0
+EndIsWhole = (transfer : List ℕ) → wholeWalk transfer .last ≡ answer done [] → wholeWalk transfer .place ≡ length transfer
+
+-- the converse: packets with their headers, joined, are yielded, each of them and in order, and then the walk says end
+abbrev pub JoinedWalked : Type 0
+JoinedWalked = (ps : List (List ℕ)) (transfer : List ℕ) → Joined ps transfer → wholeWalk transfer ≡ toEnd ps (length transfer)
+
+-- ---- a walk over what the builder made
+
+-- packets offered to the builder in turn: the output, the used count, and the packets that it took
+pub record Building : Type 0 where
+  pub out : List ℕ
+  pub used : ℕ
+  pub taken : List (List ℕ)
+
+abbrev pub takenOf : List ℕ → ℕ → ℕ → List (List ℕ)
+takenOf packet used room = cond (takes (length packet) used room) (packet ∷ []) []
+
+unfoldable pub offered : List ℕ → ℕ → List (List ℕ) → Building
+offered out used [] = record { out = out; used = used; taken = [] }
+offered out used (p ∷ ps) =
+    let rest = offered (appendOutput p used out) (usedAfter (length p) used (length out)) ps in
+    record { out = rest .out; used = rest .used; taken = takenOf p used (length out) ++ rest .taken }
+
+-- the used bytes of what was built
+abbrev pub usedBytes : Building → List ℕ
+usedBytes b = take (b .used) (b .out)
+
+-- packets behind their headers, joined
+unfoldable pub transferOf : List (List ℕ) → List ℕ
+transferOf [] = []
+transferOf (p ∷ ps) = framed p ++ transferOf ps
+
+-- from a count of 0, the used bytes are the packets that were taken, each behind its header
+abbrev pub BuiltBytes : Type 0
+BuiltBytes = (out : List ℕ) (ps : List (List ℕ)) → usedBytes (offered out 0 ps) ≡ transferOf (offered out 0 ps .taken)
+
+-- and a walk over them yields exactly the packets that were taken, in order, and then says end
+abbrev pub BuiltWalked : Type 0
+BuiltWalked = (out : List ℕ) (ps : List (List ℕ))
+    → wholeWalk (usedBytes (offered out 0 ps)) ≡ toEnd (offered out 0 ps .taken) (offered out 0 ps .used)

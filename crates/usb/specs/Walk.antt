@@ -1,0 +1,89 @@
+-- The walker: what it answers at a place of a transfer, what it yields and where it goes (document 01, 'USB'), and a walk of several answers.
+-- Assumes nothing.
+use Prim.Native.Nat.{ℕ, zero, suc, _+_, _/_}
+use mathlib.Core.Path.{_≡_}
+use mathlib.Core.Bool.{cond}
+use mathlib.Core.List.{List, [], _∷_, _++_}
+use lib.Dec.{eqb, ltb}
+use lib.ListN.{length, drop}
+use denote.Ref.{RefT, now}
+use Rattle.checks.specs.Numbers.{Answer, answer, done, rxFailure}
+use Rattle.checks.specs.Part.{IsPart, Part, bytesOf}
+use Rattle.usb.specs.declared.walker.Walked.{Walked}
+use Rattle.usb.specs.declared.walker.Walked.the-variants.{Packet, End, RxFailure}
+use Rattle.usb.specs.declared.walker.Walker.{Walker}
+use Rattle.usb.specs.declared.walker.Yielded.{Yielded}
+use Rattle.usb.specs.Decode.{decodeAnswer, packetAt}
+
+-- the answer in document 01's numbers; the value is the packet's length, and the end has none
+abbrev pub walkedAnswer : Walked → Answer
+walkedAnswer (Packet n) = answer done (n ∷ [])
+walkedAnswer End = answer done []
+walkedAnswer RxFailure = answer rxFailure []
+
+-- a place beyond the transfer; its end; else what decode says from there on
+unfoldable pub walkAnswer : List ℕ → ℕ → Answer
+walkAnswer transfer place =
+    cond (ltb (length transfer) place) (answer rxFailure [])
+    (cond (eqb place (length transfer)) (answer done [])
+    (decodeAnswer (drop place transfer)))
+
+-- the packet, as a part of the transfer
+abbrev pub foundPart : List ℕ → ℕ → Part
+foundPart transfer place = packetAt place (walkAnswer transfer place .values)
+
+-- the place behind a packet of the length that an answer's values give; without one the place stays
+abbrev pub placeBehind : ℕ → List ℕ → ℕ
+placeBehind place [] = place
+placeBehind place (n ∷ ns) = place + (4 + n)
+
+abbrev pub placeAfter : List ℕ → ℕ → ℕ
+placeAfter transfer place = placeBehind place (walkAnswer transfer place .values)
+
+-- a walker at the start of a transfer
+abbrev pub startOf : RefT (List ℕ) → Walker
+startOf transfer = record { transfer = transfer; place = 0 }
+
+-- what a call of `next` hands back: the answer, the packet, and the walker behind it
+abbrev pub Yields : Walker → Yielded → Type 0
+Yields w y = (walkedAnswer (y .answer) ≡ walkAnswer (now (w .transfer)) (w .place))
+    × IsPart (y .packet) (w .transfer) (foundPart (now (w .transfer)) (w .place))
+    × (y .walker ≡ record { transfer = w .transfer; place = placeAfter (now (w .transfer)) (w .place) })
+
+-- ---- the two leave no choice. The proofs: `proofs/OneWalk.antt`
+
+-- `new` hands back one walker
+abbrev pub OneStart : Type 0
+OneStart = (transfer : RefT (List ℕ)) (x y : Walker) → x ≡ startOf transfer → y ≡ startOf transfer → x ≡ y
+
+-- any two results of `next` have the same answer, packets of the same bytes at the same place (docs/UNFIXED.md says what is left), and the same walker
+abbrev pub OneYield : Type 0
+OneYield = (w : Walker) (x y : Yielded) → Yields w x → Yields w y
+    → (x .answer ≡ y .answer) × (_≡_ {A = List ℕ × (ℕ × ℕ)} (now (x .packet), x .packet .ptr) (now (y .packet), y .packet .ptr)) × (x .walker ≡ y .walker)
+
+-- ---- several answers, one after the other
+
+-- the packets that were yielded, the place that was reached, and the answer there
+pub record Walk : Type 0 where
+  pub packets : List (List ℕ)
+  pub place : ℕ
+  pub last : Answer
+
+-- the packet that a place yields, or none
+abbrev pub yieldedBy : List ℕ → Part → List ℕ → List (List ℕ)
+yieldedBy transfer p [] = []
+yieldedBy transfer p (n ∷ ns) = bytesOf p transfer ∷ []
+
+abbrev pub yielded : List ℕ → ℕ → List (List ℕ)
+yielded transfer place = yieldedBy transfer (foundPart transfer place) (walkAnswer transfer place .values)
+
+-- k answers from a place on, and then one more, which is the last
+unfoldable pub walk : ℕ → List ℕ → ℕ → Walk
+walk zero transfer place = record { packets = []; place = place; last = walkAnswer transfer place }
+walk (suc k) transfer place =
+    let rest = walk k transfer (placeAfter transfer place) in
+    record { packets = yielded transfer place ++ rest .packets; place = rest .place; last = rest .last }
+
+-- one for each four bytes
+abbrev pub wholeWalk : List ℕ → Walk
+wholeWalk transfer = walk (length transfer / 4) transfer 0

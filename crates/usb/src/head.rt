@@ -1,0 +1,33 @@
+// The header before a packet.
+ghost use mathlib.Core.Path.{_≡_};
+ghost use lib.ListN.{length};
+ghost use Rattle.usb.specs.Header.{headedAnswer, headerAnswer, headerOutput};
+use crate::wire::FIRST_BYTE;
+use crate::wire::HDR_LEN;
+use crate::wire::MCTP_USB_MTU_MAX;
+use crate::wire::SECOND_BYTE;
+
+// What header answers: done, or number 6.
+pub enum Headed {
+    Done,
+    BadPacket,
+}
+
+// Writes the header of a packet of `size` bytes. It refuses a lent header that has not 4 bytes, and a packet over 251 bytes (BadPacket, number 6); then
+// nothing is written.
+pub fn header(size: usize, out: &mut [u8]) -> Headed
+    ensures { λ r. ⌜ headedAnswer r ≡ headerAnswer size (length (now (out .entry))) ⌝ }
+    ensures { λ r. ⌜ now (out .exit) ≡ headerOutput r size (now (out .entry)) ⌝ }
+{
+    if out.len() != HDR_LEN {
+        return Headed::BadPacket;
+    }
+    if size > MCTP_USB_MTU_MAX {
+        return Headed::BadPacket;
+    }
+    out[0] = FIRST_BYTE;
+    out[1] = SECOND_BYTE;
+    out[2] = 0;
+    out[3] = (size + 4) as u8;
+    Headed::Done
+}
