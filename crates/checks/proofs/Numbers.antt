@@ -4,3 +4,7 @@ use Rattle.checks.specs.Numbers.{Answer}
 
 pub tells : {A : Type 0} (to : A → Answer) (back : Answer → A) → ((x : A) → back (to x) ≡ x) → (x y : A) → to x ≡ to y → x ≡ y
 tells to back h x y e = sym (h x) ∙ ap back e ∙ h y
+
+-- and what a caller that has matched on a result knows of the answer that it stands for
+pub matched : {A : Type 0} (to : A → Answer) {r x : A} {a : Answer} → to r ≡ a → r ≡ x → a ≡ to x
+matched to e t = sym e ∙ ap to t

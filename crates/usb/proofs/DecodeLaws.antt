@@ -1,7 +1,7 @@
--- What an input is that decode accepts, and a place at which a walk finds a packet: each test of the definition was passed.
--- Assumes nothing.
+-- What an input is that decode accepts, and a place at which a walk finds a packet: each test of the definition was passed. And what a caller of
+-- `decode` and of `walk_at` knows that has matched on a packet. Assumes nothing.
 use Prim.Native.Nat.{ℕ, _+_, _-_, _≤_}
-use mathlib.Core.Path.{_≡_, _∙_, ap, refl, sym}
+use mathlib.Core.Path.{_≡_, ap, refl}
 use mathlib.Core.Bool.{Bool, true, false, cond, not, _&&_}
 use mathlib.Core.List.{List, [], _∷_}
 use native.Mathlib.Omega.{arith}
@@ -9,11 +9,14 @@ use lib.Dec.{eqb, ltb}
 use lib.ListN.{length, getD, drop, length-drop}
 use borrow.Author.Tests.{eqb-true, ltb-false}
 use Rattle.checks.specs.Numbers.{Answer, answer, done, rxFailure}
+use Rattle.checks.proofs.Numbers.{matched}
 use Rattle.usb.specs.declared.decoder.Decoded.{Decoded}
-use Rattle.usb.specs.declared.decoder.Decoded.the-variants.{Packet, RxFailure}
+use Rattle.usb.specs.declared.decoder.Decoded.the-variants.{Packet}
+use Rattle.usb.specs.declared.walker.Walked.{Walked}
+use Rattle.usb.specs.declared.walker.Walked.the-variants.{Packet as PacketFound}
 use Rattle.usb.specs.Decode.{decodeAnswer, decodedAnswer}
 use Rattle.usb.specs.Header.{firstByte, secondByte}
-use Rattle.usb.specs.Walk.{walkAnswer}
+use Rattle.usb.specs.Walk.{walkAnswer, walkedAnswer}
 
 -- header and length of an input that is accepted with a packet of n bytes
 pub record Accepted (input : List ℕ) (n : ℕ) : Type 0 where
@@ -61,17 +64,9 @@ accepted s n e =
           fits = omega arith;
         }
 
--- where `decode` gave a packet of n bytes, the definition gives it too
-pub gave : (r : Decoded) (input : List ℕ) (n : ℕ) → decodedAnswer r ≡ decodeAnswer input → r ≡ Packet n → decodeAnswer input ≡ answer done (n ∷ [])
-gave r input n e t = sym e ∙ ap decodedAnswer t
-
--- then header and packet lie in the input
+-- where `decode` gave a packet of n bytes, header and packet lie in the input
 pub gave-inside : (r : Decoded) (input : List ℕ) (n : ℕ) → decodedAnswer r ≡ decodeAnswer input → r ≡ Packet n → 4 + n ≤ length input
-gave-inside r input n e t = accepted input n (gave r input n e t) .fits
-
--- and where it gave none, the definition gives none
-pub gave-none : (r : Decoded) (input : List ℕ) → decodedAnswer r ≡ decodeAnswer input → r ≡ RxFailure → decodeAnswer input ≡ answer rxFailure []
-gave-none r input e t = sym e ∙ ap decodedAnswer t
+gave-inside r input n e t = accepted input n (matched decodedAnswer e t) .fits
 
 -- a place at which a walk finds a packet of n bytes: decode accepts what stands from there on, and header and packet lie in the transfer
 pub record FoundAt (transfer : List ℕ) (place n : ℕ) : Type 0 where
@@ -89,3 +84,8 @@ found s p n e = go (ltb (length s) p) (eqb p (length s)) refl e
     go false false h e =
         let place : p ≤ length s = ltb-false (length s) p h in
         record { inside = omega (arith, accepted (drop p s) n e .fits, length-drop p s); decoded = e }
+
+-- where `walk_at` gave a packet of n bytes, header and packet lie in the transfer
+pub walked-inside : (r : Walked) (transfer : List ℕ) (place n : ℕ) → walkedAnswer r ≡ walkAnswer transfer place → r ≡ PacketFound n
+    → place + (4 + n) ≤ length transfer
+walked-inside r transfer place n e t = found transfer place n (matched walkedAnswer e t) .inside

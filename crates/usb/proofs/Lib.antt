@@ -7,4 +7,3 @@ pub mod Offered
 pub mod OneResult
 pub mod OneWalk
 pub mod Transfers
-pub mod WalkLaws

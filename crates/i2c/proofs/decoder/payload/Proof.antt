@@ -10,18 +10,12 @@ use lib.Seq.{length-take-le}
 use borrow.Author.Needs.{needs}
 use Rattle.checks.specs.Numbers.{answer, done}
 use Rattle.checks.specs.Part.{part}
+use Rattle.checks.proofs.Numbers.{matched}
 use Rattle.checks.proofs.Part.{empty-part, equal-parts}
-use Rattle.i2c.specs.declared.decoder.Decoded.{Decoded}
-use Rattle.i2c.specs.declared.decoder.Decoded.the-variants.{From}
 use Rattle.i2c.specs.Decode.{body, decodeAnswer, decodedAnswer, payloadPart}
 use Rattle.i2c.proofs.DecodeLaws.{decode-taken, part-refused, part-taken}
 use Rattle.i2c.proofs.decoder.payload.Statement.{statement}
 use Rattle.i2c.proofs.decoder.payload.Tie as tie
-
--- a source that decode gave is its answer
-answered : (pec : Bool) (input : List ℕ) {r : Decoded} {source : ℕ} → r ≡ From source → decodedAnswer r ≡ decodeAnswer pec input
-    → decodeAnswer pec input ≡ answer done (source ∷ [])
-answered pec input told e = sym e ∙ ap decodedAnswer told
 
 -- an input of which a source is answered, and which has n bytes without its PEC: the header is within them, and the payload behind it
 module _ (pec : Bool) (input : List ℕ) (source n : ℕ) (e : decodeAnswer pec input ≡ answer done (source ∷ []))
@@ -53,7 +47,7 @@ sub-result c =
     omega (
       arith,
       long (a .pec) (a .input .now) (t .enum-told .given .0 .0) (length (a .input .now) - 1)
-          (answered (a .pec) (a .input .now) (t .enum-told .given .1) (d .decode .ensures))
+          (matched decodedAnswer (d .decode .ensures) (t .enum-told .given .1))
           (with-pec (a .pec) (a .input .now) (c .if1 .taken)),
     )
 
@@ -73,7 +67,7 @@ returns c =
     let a = d .before .before .args in
     equal-parts (a .input) _ _
     (lies (a .pec) (a .input .now) (t .enum-told .given .0 .0) (length (a .input .now) - 1)
-    (answered (a .pec) (a .input .now) (t .enum-told .given .1) (d .decode .ensures))
+    (matched decodedAnswer (d .decode .ensures) (t .enum-told .given .1))
     (with-pec (a .pec) (a .input .now) (c .before .if1 .taken)))
 
 sub-result-2 : tie.Need-sub-result-2
@@ -84,7 +78,7 @@ sub-result-2 c =
     omega (
       arith,
       long (a .pec) (a .input .now) (t .enum-told .given .0 .0) (length (a .input .now))
-          (answered (a .pec) (a .input .now) (t .enum-told .given .1) (d .decode .ensures))
+          (matched decodedAnswer (d .decode .ensures) (t .enum-told .given .1))
           (without (a .pec) (a .input .now) (c .if1 .left)),
     )
 
@@ -107,7 +101,7 @@ returns-2 c =
     let a = d .before .before .args in
     equal-parts (a .input) _ _
     (lies (a .pec) (a .input .now) (t .enum-told .given .0 .0) (length (a .input .now))
-    (answered (a .pec) (a .input .now) (t .enum-told .given .1) (d .decode .ensures))
+    (matched decodedAnswer (d .decode .ensures) (t .enum-told .given .1))
     (without (a .pec) (a .input .now) (c .before .if1 .left)))
 
 returns-3 : tie.Need-returns-3
@@ -116,7 +110,7 @@ returns-3 c =
     let d = t .before .before in
     let a = d .before .before .args in
     empty-part (a .input) _
-    (part-refused (a .pec) (a .input .now) (sym (d .decode .ensures) ∙ ap decodedAnswer (t .enum-told2 .given .1)))
+    (part-refused (a .pec) (a .input .now) (matched decodedAnswer (d .decode .ensures) (t .enum-told2 .given .1)))
 
 pub payload-spec : {M : Type 1} → statement M
 payload-spec =

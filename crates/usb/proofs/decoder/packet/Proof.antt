@@ -7,8 +7,10 @@ use native.Mathlib.Omega.{arith}
 use lib.ListN.{drop, take}
 use borrow.Author.Needs.{needs}
 use Rattle.checks.specs.Part.{noPart}
+use Rattle.checks.proofs.Numbers.{matched}
 use Rattle.checks.proofs.Part.{empty-part}
-use Rattle.usb.proofs.DecodeLaws.{gave, gave-inside, gave-none}
+use Rattle.usb.specs.Decode.{decodedAnswer}
+use Rattle.usb.proofs.DecodeLaws.{gave-inside}
 use Rattle.usb.proofs.decoder.packet.Statement.{statement}
 use Rattle.usb.proofs.decoder.packet.Tie as tie
 
@@ -45,12 +47,12 @@ returns c =
     let l = c .before .before in
     let s = l .before .before .before .before .args .input .now in
     let size = add-sub-cancel-left 4 (l .n .given .0 .0) in
-    rw (gave _ _ _ (l .before .before .decode .ensures) (l .n .given .1)) (ap (λ (k : ℕ). take k (drop 4 s)) size, refl)
+    rw (matched decodedAnswer (l .before .before .decode .ensures) (l .n .given .1)) (ap (λ (k : ℕ). take k (drop 4 s)) size, refl)
 
 returns-2 : tie.Need-returns-2
 returns-2 c =
     let l = c .before in
-    rw (gave-none _ _ (l .before .before .decode .ensures) (l .enum-told .given .1)) (empty-part (l .before .before .before .before .args .input) noPart refl)
+    rw (matched decodedAnswer (l .before .before .decode .ensures) (l .enum-told .given .1)) (empty-part (l .before .before .before .before .args .input) noPart refl)
 
 pub packet-spec : {M : Type 1} → statement M
 packet-spec =

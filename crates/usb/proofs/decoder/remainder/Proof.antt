@@ -4,8 +4,10 @@ use mathlib.Core.Path.{refl}
 use native.Mathlib.Omega.{arith}
 use borrow.Author.Needs.{needs}
 use Rattle.checks.specs.Part.{noPart}
+use Rattle.checks.proofs.Numbers.{matched}
 use Rattle.checks.proofs.Part.{empty-part}
-use Rattle.usb.proofs.DecodeLaws.{gave, gave-inside, gave-none}
+use Rattle.usb.specs.Decode.{decodedAnswer}
+use Rattle.usb.proofs.DecodeLaws.{gave-inside}
 use Rattle.usb.proofs.decoder.remainder.Statement.{statement}
 use Rattle.usb.proofs.decoder.remainder.Tie as tie
 
@@ -42,12 +44,12 @@ slice-aggregate-result c = search needs
 returns : tie.Need-returns
 returns c =
     let l = c .before .before in
-    rw (gave _ _ _ (l .before .before .decode .ensures) (l .n .given .1)) (refl, refl)
+    rw (matched decodedAnswer (l .before .before .decode .ensures) (l .n .given .1)) (refl, refl)
 
 returns-2 : tie.Need-returns-2
 returns-2 c =
     let l = c .before in
-    rw (gave-none _ _ (l .before .before .decode .ensures) (l .enum-told .given .1)) (empty-part (l .before .before .before .before .args .input) noPart refl)
+    rw (matched decodedAnswer (l .before .before .decode .ensures) (l .enum-told .given .1)) (empty-part (l .before .before .before .before .args .input) noPart refl)
 
 pub remainder-spec : {M : Type 1} → statement M
 remainder-spec =

@@ -8,8 +8,10 @@ use lib.ListN.{drop, take}
 use borrow.Author.Needs.{needs}
 use denote.Ref.{now}
 use Rattle.checks.specs.Part.{noPart}
+use Rattle.checks.proofs.Numbers.{matched}
 use Rattle.checks.proofs.Part.{empty-part}
-use Rattle.usb.proofs.WalkLaws.{walked, walked-inside}
+use Rattle.usb.specs.Walk.{walkedAnswer}
+use Rattle.usb.proofs.DecodeLaws.{walked-inside}
 use Rattle.usb.proofs.walker.part_at.Statement.{statement}
 use Rattle.usb.proofs.walker.part_at.Tie as tie
 
@@ -57,18 +59,18 @@ returns c =
     let l = c .before .before in
     let args = l .before .before .before .before .args in
     let start = args .place + 4 in
-    rw (walked _ _ _ _ (l .before .before .walk-at .ensures) (l .n .given .1))
+    rw (matched walkedAnswer (l .before .before .walk-at .ensures) (l .n .given .1))
     (ap (λ (k : ℕ). take k (drop start (now (args .transfer)))) (add-sub-cancel-left start (l .n .given .0 .0)), refl)
 
 returns-2 : tie.Need-returns-2
 returns-2 c =
     let l = c .before .before .before in
-    rw (walked _ _ _ _ (l .walk-at .ensures) (c .before .enum-told .given .1)) (empty-part (l .before .before .args .transfer) noPart refl)
+    rw (matched walkedAnswer (l .walk-at .ensures) (c .before .enum-told .given .1)) (empty-part (l .before .before .args .transfer) noPart refl)
 
 returns-3 : tie.Need-returns-3
 returns-3 c =
     let l = c .before .before .before in
-    rw (walked _ _ _ _ (l .walk-at .ensures) (c .before .enum-told2 .given .1)) (empty-part (l .before .before .args .transfer) noPart refl)
+    rw (matched walkedAnswer (l .walk-at .ensures) (c .before .enum-told2 .given .1)) (empty-part (l .before .before .args .transfer) noPart refl)
 
 pub part-at-spec : {M : Type 1} → statement M
 part-at-spec =

@@ -3,7 +3,9 @@
 use mathlib.Core.Path.{refl}
 use native.Mathlib.Omega.{arith}
 use borrow.Author.Needs.{needs}
-use Rattle.usb.proofs.WalkLaws.{walked, walked-inside}
+use Rattle.checks.proofs.Numbers.{matched}
+use Rattle.usb.specs.Walk.{walkedAnswer}
+use Rattle.usb.proofs.DecodeLaws.{walked-inside}
 use Rattle.usb.proofs.walker.place_after.Statement.{statement}
 use Rattle.usb.proofs.walker.place_after.Tie as tie
 
@@ -32,13 +34,13 @@ enum-told-2 c = search needs
 returns : tie.Need-returns
 returns c =
     let l = c .before in
-    rw (walked _ _ _ _ (l .before .before .walk-at .ensures) (l .n .given .1)) refl
+    rw (matched walkedAnswer (l .before .before .walk-at .ensures) (l .n .given .1)) refl
 
 returns-2 : tie.Need-returns-2
-returns-2 c = rw (walked _ _ _ _ (c .before .before .walk-at .ensures) (c .enum-told .given .1)) refl
+returns-2 c = rw (matched walkedAnswer (c .before .before .walk-at .ensures) (c .enum-told .given .1)) refl
 
 returns-3 : tie.Need-returns-3
-returns-3 c = rw (walked _ _ _ _ (c .before .before .walk-at .ensures) (c .enum-told2 .given .1)) refl
+returns-3 c = rw (matched walkedAnswer (c .before .before .walk-at .ensures) (c .enum-told2 .given .1)) refl
 
 pub place-after-spec : {M : Type 1} → statement M
 place-after-spec =
