@@ -1,11 +1,6 @@
--- What the proofs of `Walker`'s functions share. A `Walker` is Copy: what it owns is had twice, and what its transfer owns can be taken out of one of the two.
---     B            its type, over a signature's lifetimes.        Own     what it owns
---     SliceAt      the type of the slice that it holds.           held    the machine value of such a slice
---     made         of what a slice owns and a number: what the walker of both owns
---     lent         of what a walker owns: what its transfer owns, beside the same again
---     said         of what a callee ensures: the fact alone
---     returned         a callee has returned: its result, what that owns, and the fact
--- The laws take `Given`. The rest assumes nothing.
+-- What the proofs of `Walker`'s functions share: what a walker owns, how it is made and lent, and what a caller has once a callee has returned. A walker
+-- is Copy: what it owns is had twice, and what its transfer owns can be taken out of one of the two.
+-- Assumes nothing.
 use Prim.Native.Nat.{ℕ, _<_, _^_}
 use mathlib.Core.Path.{_≡_, refl}
 use mathlib.Core.List.{List, [], _∷_}
@@ -38,22 +33,28 @@ use Rattle.usb.specs.declared.walker.Walker.{Walker}
 use Rattle.usb.proofs.walker.Walker as T
 use Rattle.usb.proofs.walker.Walker.Laws as T′
 
-abbrev pub B : Lfts 1 → RattleType
-B κs = T.the-row (namedLft 1 0 tt κs)
+-- a walker's type, over a signature's lifetimes
+abbrev pub WalkerAt : Lfts 1 → RattleType
+WalkerAt κs = T.the-row (namedLft 1 0 tt κs)
 
+-- the type of the slice that it holds
 abbrev pub SliceAt : Lft → RattleType
 SliceAt κ = ShrSlice (named 0) κ u8
 
+-- the machine value of such a slice
 abbrev pub held : RefT (List ℕ) → Val
 held s = sliceVal (s .ptr) (length (s .now))
 
+-- what a walker owns
 abbrev pub Own : Lft → Walker → Fml
-Own κ d = B (κ, tt) .own d (T′.lowered d ∷ [])
+Own κ d = WalkerAt (κ, tt) .own d (T′.lowered d ∷ [])
 
 module _ {M : Type 1} (𝓤 : URA M) (H : Heap 𝓤) (A : Atoms 𝓤) (W : Given 𝓤 H A) (κ : Lft) where
+  -- the lifetime, as a signature names it
   abbrev α : NamedLft
   α = namedLft 1 0 tt (κ, tt)
 
+  -- of what a slice owns, and a number: what the walker of both owns
   pub made : (s : RefT (List ℕ)) (n : ℕ) → n < 2 ^ 64
       → ent 𝓤 (sem 𝓤 H A (SliceAt κ .own s (held s ∷ []))) (sem 𝓤 H A (Own κ (record { transfer = s; place = n })))
   made s n small =
@@ -61,6 +62,7 @@ module _ {M : Type 1} (𝓤 : URA M) (H : Heap 𝓤) (A : Atoms 𝓤) (W : Given
       nothing ! $ owned ! usize (Is usize) (uint-makes 𝓤 H A W w64) n _ (refl, small) $ fjoin ! $ move ! (1 ∷ 0 ∷ []) $ fjoin ! $
       by ! (own-shut 𝓤 H A W (T.the-type α) (T′.the-laws α) (s, (n, tt)))
 
+  -- of what a walker owns: what its transfer owns, beside the same again
   pub lent : (d : Walker)
       → ent 𝓤 (sem 𝓤 H A (Own κ d)) (sep 𝓤 (sem 𝓤 H A (SliceAt κ .own (d .transfer) (held (d .transfer) ∷ []))) (sem 𝓤 H A (Own κ d)))
   lent d =
@@ -76,14 +78,15 @@ module _ {M : Type 1} (𝓤 : URA M) (H : Heap 𝓤) (A : Atoms 𝓤) (W : Given
       move ! (1 ∷ []) $ drop ! $ frame ! $ done !)
 
 module _ {M : Type 1} (𝓤 : URA M) (H : Heap 𝓤) (A : Atoms 𝓤) where
-  -- no `&mut` was passed, so what is said of last values is dropped
+  -- of what a callee ensures: the fact alone. No `&mut` was passed, so what is said of last values is dropped
   pub said : (T : Ended) (c : Clauses 𝓤 T) (κs : Lfts (T .signature .lifetimes)) (a : Args (T .signature) κs) (g : c κs a .ghost)
       (r : Res (T .signature) κs) (φ : Type 0) → ((e : AtExit T κs) → ent 𝓤 (c κs a .ensures g r e) (fact 𝓤 φ))
       → ent 𝓤 (ensured 𝓤 H A T c κs a g r) (fact 𝓤 φ)
   said T c κs a g r φ h =
       exE 𝓤 _ (λ ws. via 𝓤 _ (snd∗ 𝓤 (sem 𝓤 H A (lasts T κs a ws)) (c κs a .ensures g r (atExit T κs a ws))) (h (atExit T κs a ws)))
 
--- `tokens` are the lifetimes' that went to the callee, and `back` is its postcondition at the machine value u
+-- a callee has returned the machine value u: its result, what that owns, and the fact that is ensured. `tokens` are the lifetimes' that went to the callee
+-- and come back, and `back` is its postcondition
 module _ {M : Type 1} {𝓤 : URA M} {H : Heap 𝓤} {A : Atoms 𝓤} {K : Type 0} {W : Given 𝓤 H A} {Γ : List (Item 𝓤)} {G : Goal 𝓤 H} where
   pub returned : K → Soaks G → {back : SProp 𝓤} (tokens : Item 𝓤) (R : RattleType) (u : Val) (ensures : R .Denot → SProp 𝓤) (φ : R .Denot → Type 0)
       → ent 𝓤 back (mean 𝓤 H A (later (some (λ (r : R .Denot). (tokens ⊛ ‵ (R .own r (u ∷ []))) ⊛ raw (ensures r)))))

@@ -75,8 +75,9 @@ impl<'a> Walker<'a> {
         Walker { transfer, place: 0 }
     }
 
-    // The packet at the walker's place, and the walker behind it. At the transfer's end the answer is End, also for an empty transfer; where decode refuses, or the
-    // place lies beyond the transfer, it is RxFailure, number 7. Then the packet is empty and the walker stays, and so does each later answer.
+    // The packet at the walker's place, and the walker behind it. At the transfer's end the answer is End, also for an empty transfer; where decode
+    // refuses, or the place lies beyond the transfer, it is RxFailure, number 7. Then the packet is empty and the walker stays, and so does each later
+    // answer.
     pub fn next(self) -> Yielded<'a>
         ensures { λ y. ⌜ Yields (self .entry) y ⌝ }
     {

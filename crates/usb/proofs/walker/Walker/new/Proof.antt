@@ -39,37 +39,42 @@ use Rattle.usb.proofs.walker.Walker.new as new
 use Rattle.usb.proofs.walker.Walker.new.Statement as stated
 use Rattle.usb.proofs.walker.Walker.new.Code as code
 
+-- what is still had of the parameter at exit
 abbrev stayed : Stays (new.ended .signature .params) (new.ended .kept)
 stayed = (stay-none-slice (0 ∷ []) tt (plain (λ _. u8)) yes, tt)
 
 module _ {M : Type 1} (𝓤 : URA M) (H : Heap 𝓤) (A : Atoms 𝓤) (W : Given 𝓤 H A) (mem : Memory → SProp 𝓤) (run : Routine → Fun 𝓤)
     (κ : Lft) (q : Share) (s : RefT (List ℕ)) where
-  abbrev at : List Val × Unit {0}
-  at = (held s ∷ [], tt)
+  -- what is passed, and what is made of it
+  abbrev passed : List Val × Unit {0}
+  passed = (held s ∷ [], tt)
 
   abbrev started : Walker
   started = record { transfer = s; place = 0 }
 
+  -- what is had at entry, and what must be had at exit
   abbrev entry : SProp 𝓤
-  entry = onEntry 𝓤 H A new.signature (κ, tt) (q, tt) (s, tt) at
+  entry = onEntry 𝓤 H A new.signature (κ, tt) (q, tt) (s, tt) passed
 
   abbrev Post : Val → SProp 𝓤
-  Post = walkOf 𝓤 H A new.ended stayed (new.clauses 𝓤 H A mem run) .post (((κ, tt), (q, tt), tt, (s, tt), at), tt)
+  Post = walkOf 𝓤 H A new.ended stayed (new.clauses 𝓤 H A mem run) .post (((κ, tt), (q, tt), tt, (s, tt), passed), tt)
 
   -- what the slice owns
   abbrev Slice : Fml
   Slice = SliceAt κ .own s (held s ∷ [])
 
+  -- the exit: the contract's equation holds by computation
   exits : ent 𝓤 entry (Post (T′.lowered started))
   exits =
-      qed W ((‵ (flft κ q) ⊛ ‵ ftrue) ∷ ‵ (owns (SliceAt κ ∷ []) (s, tt) at) ∷ []) ∵
+      qed W ((‵ (flft κ q) ⊛ ‵ ftrue) ∷ ‵ (owns (SliceAt κ ∷ []) (s, tt) passed) ∷ []) ∵
       suffices ! _
-      (ends-at 𝓤 H A new.ended stayed (new.clauses 𝓤 H A mem run) W (((κ, tt), (q, tt), tt, (s, tt), at), tt)
+      (ends-at 𝓤 H A new.ended stayed (new.clauses 𝓤 H A mem run) W (((κ, tt), (q, tt), tt, (s, tt), passed), tt)
       (T′.lowered started) started (tt, tt) (tt, tt)) $
       says ! refl $ frame ! $
       fsplit ! $ use1 W (‵ Slice ⊛ ‵ Slice) (shr-slice-copy 𝓤 H A W (named 0) κ u8 .twice s (held s ∷ [])) $ split ! $
       move ! (0 ∷ 2 ∷ []) $ fjoin ! $ frame ! $ by ! (made 𝓤 H A W κ s 0 (lit< tt))
 
+  -- the statements, one by one
   module _ (C : Calls 𝓤 H) (Λ : Loops 𝓤 H) where
     walk : Is (SliceAt κ) s (held s ∷ []) → ent 𝓤 entry (WpFn 𝓤 H C Λ code.function (held s ∷ []) Post)
     walk p =
@@ -81,6 +86,7 @@ module _ {M : Type 1} (𝓤 : URA M) (H : Heap 𝓤) (A : Atoms 𝓤) (W : Given
         (init ! 2 refl (tt, (wt .1, (record { fits = lit< tt }, tt)))) $
         returns ! (look ! 2 refl) $ forget ! 0 refl $ forget ! 2 refl $ move ! (2 ∷ 3 ∷ []) $ free1 ! $ free1 ! $ free0 ! $ by ! exits))
 
+-- and from the walk to the contract
 module _ {M : Type 1} (𝓤 : URA M) (H : Heap 𝓤) (A : Atoms 𝓤) (W : Given 𝓤 H A) (mem : Memory → SProp 𝓤) (run : Routine → Fun 𝓤) where
   new-walks : (C : Calls 𝓤 H) (Λ : Loops 𝓤 H) → Walks 𝓤 H A new.ended stayed (WpFn 𝓤 H C Λ code.function) (new.clauses 𝓤 H A mem run)
   new-walks C Λ =

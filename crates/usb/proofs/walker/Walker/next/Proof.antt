@@ -46,7 +46,7 @@ use Rattle.usb.specs.declared.walker.Walked.{Walked}
 use Rattle.usb.specs.declared.walker.Walker.{Walker}
 use Rattle.usb.specs.declared.walker.Yielded.{Yielded}
 use Rattle.usb.specs.Walk.{foundPart, placeAfter, walkAnswer, walkedAnswer}
-use Rattle.usb.proofs.Held.{B, Own, SliceAt, held, lent, made, returned, said}
+use Rattle.usb.proofs.Held.{Own, SliceAt, WalkerAt, held, lent, made, returned, said}
 use Rattle.usb.proofs.walker.Walker as T
 use Rattle.usb.proofs.walker.Walker.Laws as T′
 use Rattle.usb.proofs.walker.Walked as S
@@ -70,8 +70,9 @@ use Rattle.usb.proofs.walker.Walker.next as next
 use Rattle.usb.proofs.walker.Walker.next.Statement as stated
 use Rattle.usb.proofs.walker.Walker.next.Code as code
 
+-- what is still had of the parameter at exit
 abbrev stayed : Stays (next.ended .signature .params) (next.ended .kept)
-stayed = (stay-none B yes, tt)
+stayed = (stay-none WalkerAt yes, tt)
 
 -- the contracts that the proof cites
 module _ {M : Type 1} (𝓤 : URA M) (H : Heap 𝓤) (A : Atoms 𝓤) (mem : Memory → SProp 𝓤) (run : Routine → Fun 𝓤) where
@@ -86,6 +87,7 @@ module _ {M : Type 1} (𝓤 : URA M) (H : Heap 𝓤) (A : Atoms 𝓤) (mem : Mem
 
 module _ {M : Type 1} (𝓤 : URA M) (H : Heap 𝓤) (A : Atoms 𝓤) (W : Given 𝓤 H A) (mem : Memory → SProp 𝓤) (run : Routine → Fun 𝓤)
     (κ : Lft) (q : Share) (d : Walker) where
+  -- the walker's machine value, what is had at entry, and what must be had at exit
   abbrev mach : Val
   mach = T′.lowered d
 
@@ -124,9 +126,10 @@ module _ {M : Type 1} (𝓤 : URA M) (H : Heap 𝓤) (A : Atoms 𝓤) (W : Given
       move ! (2 ∷ 0 ∷ []) $ use2 W (raw (WalkAt 𝓤 H A mem run .pre to))
       (qed W (Tokens ∷ ‵ (owns (SliceAt κ ∷ usize ∷ []) args passed) ∷ []) ∵ join ! $ frame ! $ done !) $ frame ! $ done !
 
+  -- so does what is had at entry
   starts : d .place < 2 ^ 64 → ent 𝓤 entry (sep 𝓤 (WalkAt 𝓤 H A mem run .pre to) (sem 𝓤 H A Kept))
   starts small =
-      qed W (Tokens ∷ ‵ (owns (B (κ, tt) ∷ []) (d, tt) (mach ∷ [], tt)) ∷ []) ∵
+      qed W (Tokens ∷ ‵ (owns (WalkerAt (κ, tt) ∷ []) (d, tt) (mach ∷ [], tt)) ∷ []) ∵
       move ! (1 ∷ []) $ fsplit ! $ move ! (1 ∷ []) $ drop ! $ move ! (1 ∷ 0 ∷ []) $ by ! (goes small)
 
   -- the fact that each callee ensures of its result
@@ -178,7 +181,7 @@ module _ {M : Type 1} (𝓤 : URA M) (H : Heap 𝓤) (A : Atoms 𝓤) (W : Given
       → ent 𝓤 (⋆ 𝓤 H A (‵ Kept ∷ ‵ (SliceAt κ .own part (u ∷ [])) ∷ ‵ (S.the-row .own a (v ∷ [])) ∷ []))
       (sep 𝓤 (sem 𝓤 H A (Result .own (result n part a) (lowered n u v ∷ []))) (sem 𝓤 H A Kept))
   built n part a u v small =
-      let fields = B (κ, tt) ∷ SliceAt κ ∷ S.the-row ∷ [] in
+      let fields = WalkerAt (κ, tt) ∷ SliceAt κ ∷ S.the-row ∷ [] in
       qed W (‵ Kept ∷ ‵ (SliceAt κ .own part (u ∷ [])) ∷ ‵ (S.the-row .own a (v ∷ [])) ∷ []) ∵
       use1 W (‵ Slice ⊛ ‵ Kept) (lent 𝓤 H A W κ d) $ split ! $ use1 W (‵ (Own κ (after n))) (made 𝓤 H A W κ (d .transfer) n small) $
       -- [what the new walker owns; what the old one owns; the part; the answer]
@@ -186,6 +189,7 @@ module _ {M : Type 1} (𝓤 : URA M) (H : Heap 𝓤) (A : Atoms 𝓤) (W : Given
       use1 W (‵ (Result .own (result n part a) (lowered n u v ∷ [])))
       (makes 𝓤 H A W fields (owns fields (after n, (part, (a, tt)))) (T′.lowered (after n) ∷ [], (u ∷ [], (v ∷ [], tt)))) $ frame ! $ done !
 
+  -- the exit: what the callees ensure is what the contract says
   exits : (n : ℕ) (part : RefT (List ℕ)) (a : Walked) (w : Val) → Moves n → Parts part → Answers a
       → ent 𝓤 (⋆ 𝓤 H A (‵ (Result .own (result n part a) (w ∷ [])) ∷ ‵ Kept ∷ Tokens ∷ [])) (Post w)
   exits n part a w moves parts answers =
@@ -195,6 +199,7 @@ module _ {M : Type 1} (𝓤 : URA M) (H : Heap 𝓤) (A : Atoms 𝓤) (W : Given
       w (result n part a) (tt, tt) (tt, tt)) $
       says ! (answers, parts, ap after moves) $ move ! (2 ∷ []) $ frame ! $ nothing ! $ move ! (2 ∷ 0 ∷ []) $ fjoin ! $ frame ! $ done !
 
+  -- the statements, one by one
   module _ (C : Calls 𝓤 H) (Λ : Loops 𝓤 H) (fm : FmC 𝓤 H (W .laws) C)
       (walk-at-meets : Triple 𝓤 (C #usb·walk-at) (WalkAt 𝓤 H A mem run))
       (part-at-meets : Triple 𝓤 (C #usb·part-at) (PartAt 𝓤 H A mem run))
@@ -248,6 +253,7 @@ module _ {M : Type 1} (𝓤 : URA M) (H : Heap 𝓤) (A : Atoms 𝓤) (W : Given
         move ! (9 ∷ 10 ∷ []) $ free1 ! $ move ! (7 ∷ 8 ∷ []) $ free1 ! $ move ! (5 ∷ 6 ∷ []) $ free1 ! $ move ! (3 ∷ 4 ∷ []) $ free1 ! $ free0 ! $
         by ! (exits n part a (lowered n u v) moves parts answers))))))))))))))))
 
+-- and from the walk to the contract
 module _ {M : Type 1} (𝓤 : URA M) (H : Heap 𝓤) (A : Atoms 𝓤) (W : Given 𝓤 H A) (mem : Memory → SProp 𝓤) (run : Routine → Fun 𝓤) where
   next-walks : (C : Calls 𝓤 H) (Λ : Loops 𝓤 H) → FmC 𝓤 H (W .laws) C
       → Triple 𝓤 (C #usb·walk-at) (WalkAt 𝓤 H A mem run) → Triple 𝓤 (C #usb·part-at) (PartAt 𝓤 H A mem run)
@@ -265,7 +271,7 @@ next-meets : {M : Type 1} (𝓤 : URA M) (H : Heap 𝓤) (A : Atoms 𝓤) (W : G
     → Triple 𝓤 (𝓣 .C #usb·place-after) (PlaceAfter 𝓤 H A mem run)
     → Meets 𝓤 H A next.signature (WpFn 𝓤 H (𝓣 .C) (𝓣 .Λ) code.function) (next.spec 𝓤 H A mem run)
 next-meets 𝓤 H A W mem run 𝓣 answers parts moves =
-    walk-meets 𝓤 H A next.ended stayed W (goes-none 𝓤 H A W 1 B yes (λ κs x f. refl), tt) (next.clauses 𝓤 H A mem run)
+    walk-meets 𝓤 H A next.ended stayed W (goes-none 𝓤 H A W 1 WalkerAt yes (λ κs x f. refl), tt) (next.clauses 𝓤 H A mem run)
     (WpFn 𝓤 H (𝓣 .C) (𝓣 .Λ) code.function) (WpFn-mono 𝓤 H (W .laws) 𝓣 code.function)
     (next-walks 𝓤 H A W mem run (𝓣 .C) (𝓣 .Λ) (fmOf 𝓤 H (W .laws) 𝓣) answers parts moves)
 
