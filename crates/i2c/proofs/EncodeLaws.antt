@@ -2,12 +2,12 @@
 -- the other, so each test's outcome gives the answer. Assumes nothing.
 use Prim.Native.Nat.{ℕ, _≤_, _<_}
 use mathlib.Core.Path.{_≡_, ap, refl}
-use mathlib.Core.Bool.{Bool, true, false, cond}
+use mathlib.Core.Bool.{Bool, true, false, cond, not}
 use mathlib.Core.List.{[], _∷_}
 use native.Mathlib.Omega.{arith}
-use lib.Dec.{leb}
+use lib.Dec.{leb, ltb}
 use lib.ListN.{getD}
-use borrow.Author.Tests.{le-leb, leb-true, lt-leb}
+use borrow.Author.Tests.{le-leb, le-ltb, leb-true, lt-leb, lt-ltb, ltb-false}
 use Rattle.checks.specs.Numbers.{Answer, answer, badAddress, badArgument, done}
 use Rattle.checks.proofs.Choice.{left, right}
 use Rattle.i2c.specs.Encode.{addresses, encodeAnswer, frameSize}
@@ -26,19 +26,19 @@ module _ (own dest size room : ℕ) (pec : Bool) where
   -- a payload over 254 bytes, and then an output without room for its frame
   pub too-long : own ≤ 127 → dest ≤ 127 → 254 < size → answer badArgument [] ≡ encodeAnswer own dest pec size room
   unfolding encodeAnswer
-  too-long h k long = simp (le-leb own 127 h, le-leb dest 127 k, lt-leb size 254 long)
+  too-long h k long = simp (le-leb own 127 h, le-leb dest 127 k, lt-ltb 254 size long)
 
   pub no-room : own ≤ 127 → dest ≤ 127 → size ≤ 254 → room < frameSize pec size → answer badArgument [] ≡ encodeAnswer own dest pec size room
   unfolding encodeAnswer
   no-room h k fits short =
-      simp (le-leb own 127 h, le-leb dest 127 k, le-leb size 254 fits, lt-leb (frameSize pec size) room short)
+      simp (le-leb own 127 h, le-leb dest 127 k, le-ltb 254 size fits, lt-ltb room (frameSize pec size) short)
 
   -- and where none of these holds
   pub with-room : own ≤ 127 → dest ≤ 127 → size ≤ 254 → frameSize pec size ≤ room
       → answer done (frameSize pec size ∷ []) ≡ encodeAnswer own dest pec size room
   unfolding encodeAnswer
   with-room h k fits enough =
-      simp (le-leb own 127 h, le-leb dest 127 k, le-leb size 254 fits, le-leb (frameSize pec size) room enough)
+      simp (le-leb own 127 h, le-leb dest 127 k, le-ltb 254 size fits, le-ltb room (frameSize pec size) enough)
 
   -- what is taken: two addresses, a payload that can be counted, and an output that has room for its frame
   pub record Taken (n : ℕ) : Type 0 where
@@ -51,20 +51,20 @@ module _ (own dest size room : ℕ) (pec : Bool) where
   -- and back: what is answered as done was taken
   pub encode-taken : (n : ℕ) → encodeAnswer own dest pec size room ≡ answer done (n ∷ []) → Taken n
   unfolding encodeAnswer
-  encode-taken n e = go (addresses own dest) (leb size 254) (leb (frameSize pec size) room) refl refl refl e
+  encode-taken n e = go (addresses own dest) (ltb 254 size) (ltb room (frameSize pec size)) refl refl refl e
     where
-      go : (both small enough : Bool) → addresses own dest ≡ both → leb size 254 ≡ small → leb (frameSize pec size) room ≡ enough
-          → cond both (cond small (cond enough (answer done (frameSize pec size ∷ [])) (answer badArgument [])) (answer badArgument []))
-          (answer badAddress []) ≡ answer done (n ∷ []) → Taken n
-      go true true true p q r e =
+      go : (both long short : Bool) → addresses own dest ≡ both → ltb 254 size ≡ long → ltb room (frameSize pec size) ≡ short
+          → cond (not both) (answer badAddress []) (cond long (answer badArgument []) (cond short (answer badArgument [])
+          (answer done (frameSize pec size ∷ [])))) ≡ answer done (n ∷ []) → Taken n
+      go true false false p q r e =
           let same : frameSize pec size ≡ n = ap (λ (a : Answer). getD (a .values) 0 0) e in
           record {
             own-fits = leb-true own 127 (left (leb own 127) (leb dest 127) p);
             dest-fits = leb-true dest 127 (right (leb own 127) (leb dest 127) p);
-            size-fits = leb-true size 254 q;
+            size-fits = ltb-false 254 size q;
             whole = same;
-            fits = omega (arith, leb-true (frameSize pec size) room r);
+            fits = omega (arith, ltb-false room (frameSize pec size) r);
           }
-      go true true false p q r e = absurd (omega (arith, ap (λ (a : Answer). a .number) e))
-      go true false enough p q r e = absurd (omega (arith, ap (λ (a : Answer). a .number) e))
-      go false small enough p q r e = absurd (omega (arith, ap (λ (a : Answer). a .number) e))
+      go true false true p q r e = absurd (omega (arith, ap (λ (a : Answer). a .number) e))
+      go true true short p q r e = absurd (omega (arith, ap (λ (a : Answer). a .number) e))
+      go false long short p q r e = absurd (omega (arith, ap (λ (a : Answer). a .number) e))

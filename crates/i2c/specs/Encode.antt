@@ -1,8 +1,8 @@
 -- What encode answers, and what it leaves in the output (document 01, 'I2C' and 'Numbers given back', with its order). Assumes nothing.
 use Prim.Native.Nat.{ℕ, _+_}
-use mathlib.Core.Bool.{Bool, cond, _&&_}
+use mathlib.Core.Bool.{Bool, cond, not, _&&_}
 use mathlib.Core.List.{List, [], _∷_}
-use lib.Dec.{leb}
+use lib.Dec.{leb, ltb}
 use Rattle.checks.specs.Numbers.{Answer, answer, badAddress, badArgument, done}
 use Rattle.checks.specs.Output.{atStart}
 use Rattle.i2c.specs.declared.encoder.Encoded.{Encoded}
@@ -23,15 +23,13 @@ addresses own dest = leb own 127 && leb dest 127
 abbrev pub frameSize : Bool → ℕ → ℕ
 frameSize pec size = cond pec (5 + size) (4 + size)
 
--- of a payload of this size, into an output of `room` bytes: 4 before 3; of what gives 3, the payload before the output
+-- of a payload of this size, into an output of `room` bytes: an address over 127; a payload over 254; an output shorter than the frame
 unfoldable pub encodeAnswer : ℕ → ℕ → Bool → ℕ → ℕ → Answer
 encodeAnswer own dest pec size room =
-    cond (addresses own dest)
-    (cond (leb size 254)
-    (cond (leb (frameSize pec size) room) (answer done (frameSize pec size ∷ []))
-    (answer badArgument []))
-    (answer badArgument []))
-    (answer badAddress [])
+    cond (not (addresses own dest)) (answer badAddress [])
+    (cond (ltb 254 size) (answer badArgument [])
+    (cond (ltb room (frameSize pec size)) (answer badArgument [])
+    (answer done (frameSize pec size ∷ []))))
 
 -- the output after it
 unfoldable pub encodeOutput : Encoded → ℕ → ℕ → Bool → List ℕ → List ℕ → List ℕ

@@ -1,13 +1,13 @@
--- What an input is that decode accepts, and a place at which a walk finds a packet: each test of the definition was passed. And what a caller of
--- `decode` and of `walk_at` knows that has matched on a packet. Assumes nothing.
-use Prim.Native.Nat.{ℕ, _+_, _-_, _≤_}
+-- Laws of decode's definition: what each check makes of the answer, and back, what an input is that is accepted, and a place at which a walk finds a
+-- packet: each test was passed. And what a caller of `decode` and of `walk_at` knows that has matched on a packet. Assumes nothing.
+use Prim.Native.Nat.{ℕ, _+_, _-_, _≤_, _<_}
 use mathlib.Core.Path.{_≡_, ap, refl}
 use mathlib.Core.Bool.{Bool, true, false, cond, not, _&&_}
 use mathlib.Core.List.{List, [], _∷_}
 use native.Mathlib.Omega.{arith}
 use lib.Dec.{eqb, ltb}
 use lib.ListN.{length, getD, drop, length-drop}
-use borrow.Author.Tests.{eqb-true, ltb-false}
+use borrow.Author.Tests.{eq-eqb, eqb-true, le-ltb, lt-ltb, ltb-false, ne-eqb}
 use Rattle.checks.specs.Numbers.{Answer, answer, done, rxFailure}
 use Rattle.checks.proofs.Numbers.{matched}
 use Rattle.usb.specs.declared.decoder.Decoded.{Decoded}
@@ -17,6 +17,59 @@ use Rattle.usb.specs.declared.walker.Walked.the-variants.{Packet as Pack
 use Rattle.usb.specs.Decode.{decodeAnswer, decodedAnswer}
 use Rattle.usb.specs.Header.{firstByte, secondByte}
 use Rattle.usb.specs.Walk.{walkAnswer, walkedAnswer}
+
+-- ---- decode's checks, one after the other
+
+module _ (input : List ℕ) where
+  -- each check that refuses, where those before it do not
+  pub too-short : length input < 4 → decodeAnswer input ≡ answer rxFailure []
+  unfolding decodeAnswer
+  too-short h = simp (lt-ltb (length input) 4 h)
+
+  pub other-first : 4 ≤ length input → (getD input 0 0 ≡ firstByte → ⊥) → decodeAnswer input ≡ answer rxFailure []
+  unfolding decodeAnswer
+  other-first long wrong = simp (le-ltb (length input) 4 long, ne-eqb (getD input 0 0) firstByte wrong)
+
+  pub other-second : 4 ≤ length input → getD input 0 0 ≡ firstByte → (getD input 1 0 ≡ secondByte → ⊥) → decodeAnswer input ≡ answer rxFailure []
+  unfolding decodeAnswer
+  other-second long first wrong =
+      simp (le-ltb (length input) 4 long, eq-eqb (getD input 0 0) firstByte first, ne-eqb (getD input 1 0) secondByte wrong)
+
+  module _ (long : 4 ≤ length input) (first : getD input 0 0 ≡ firstByte) (second : getD input 1 0 ≡ secondByte) where
+    pub under-four : getD input 3 0 < 4 → decodeAnswer input ≡ answer rxFailure []
+    unfolding decodeAnswer
+    under-four h =
+        simp (
+          le-ltb (length input) 4 long,
+          eq-eqb (getD input 0 0) firstByte first,
+          eq-eqb (getD input 1 0) secondByte second,
+          lt-ltb (getD input 3 0) 4 h,
+        )
+
+    pub cut-off : 4 ≤ getD input 3 0 → length input < getD input 3 0 → decodeAnswer input ≡ answer rxFailure []
+    unfolding decodeAnswer
+    cut-off h k =
+        simp (
+          le-ltb (length input) 4 long,
+          eq-eqb (getD input 0 0) firstByte first,
+          eq-eqb (getD input 1 0) secondByte second,
+          le-ltb (getD input 3 0) 4 h,
+          lt-ltb (length input) (getD input 3 0) k,
+        )
+
+    -- and where none refuses
+    pub whole : 4 ≤ getD input 3 0 → getD input 3 0 ≤ length input → decodeAnswer input ≡ answer done ((getD input 3 0 - 4) ∷ [])
+    unfolding decodeAnswer
+    whole h k =
+        simp (
+          le-ltb (length input) 4 long,
+          eq-eqb (getD input 0 0) firstByte first,
+          eq-eqb (getD input 1 0) secondByte second,
+          le-ltb (getD input 3 0) 4 h,
+          le-ltb (length input) (getD input 3 0) k,
+        )
+
+-- ---- and back
 
 -- header and length of an input that is accepted with a packet of n bytes
 pub record Accepted (input : List ℕ) (n : ℕ) : Type 0 where

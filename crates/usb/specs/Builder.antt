@@ -1,7 +1,7 @@
 -- What the builder answers, and what it leaves: the used count and the output (document 01, 'USB' and 'Numbers given back', with its order).
 -- Assumes nothing.
 use Prim.Native.Nat.{ℕ, _+_, _-_}
-use mathlib.Core.Bool.{Bool, cond, _&&_}
+use mathlib.Core.Bool.{Bool, cond, not, _&&_}
 use mathlib.Core.List.{List, []}
 use lib.Dec.{leb}
 use lib.ListN.{length}
@@ -25,9 +25,12 @@ limit room = cond (leb room 512) room 512
 abbrev pub fits : ℕ → ℕ → ℕ → Bool
 fits size used room = leb used (limit room) && leb (size + 4) (limit room - used)
 
--- of a packet of this size, with `used` bytes of a buffer of `room` bytes used: 6 before 8
+-- of a packet of this size, with `used` bytes of a buffer of `room` bytes used: a packet over 251 bytes; no room
 unfoldable pub appendAnswer : ℕ → ℕ → ℕ → Answer
-appendAnswer size used room = cond (sendable size) (cond (fits size used room) (answer done []) (answer noRoom [])) (answer badPacket [])
+appendAnswer size used room =
+    cond (not (sendable size)) (answer badPacket [])
+    (cond (not (fits size used room)) (answer noRoom [])
+    (answer done []))
 
 -- a packet that is taken
 abbrev pub takes : ℕ → ℕ → ℕ → Bool

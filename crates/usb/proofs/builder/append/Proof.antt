@@ -2,7 +2,7 @@
 -- output. Assumes nothing.
 use Prim.Native.Nat.{ℕ, _+_, _-_, _≤_, _<_}
 use mathlib.Core.Path.{_≡_, _∙_, ap, ap₂, refl, sym}
-use mathlib.Core.Bool.{Bool, true, false, cond, _&&_}
+use mathlib.Core.Bool.{Bool, true, false, cond, not, _&&_}
 use mathlib.Core.List.{List, []}
 use native.Mathlib.Omega.{arith}
 use lib.Dec.{leb}
@@ -38,12 +38,12 @@ Leaves packet out used a n after = (a ≡ appendAnswer (length packet) used (len
 
 -- by the two tests on the packet and on the room
 by-tests : (packet out : List ℕ) (used : ℕ) (s f : Bool) → sendable (length packet) ≡ s → fits (length packet) used (length out) ≡ f
-    → Leaves packet out used (cond s (cond f (answer done []) (answer noRoom [])) (answer badPacket []))
+    → Leaves packet out used (cond (not s) (answer badPacket []) (cond (not f) (answer noRoom []) (answer done [])))
     (cond (s && f) (used + (length packet + 4)) used) (cond (s && f) (putAt used (framed packet) out) out)
 unfolding appendAnswer usedAfter appendOutput
 by-tests packet out used s f h k =
     let both = ap₂ (λ (x y : Bool). x && y) (sym h) (sym k) in (
-      ap₂ (λ (x y : Bool). cond x (cond y (answer done []) (answer noRoom [])) (answer badPacket [])) (sym h) (sym k),
+      ap₂ (λ (x y : Bool). cond (not x) (answer badPacket []) (cond (not y) (answer noRoom []) (answer done []))) (sym h) (sym k),
       (ap (λ (t : Bool). cond t (used + (length packet + 4)) used) both, ap (λ (t : Bool). cond t (putAt used (framed packet) out) out) both),
     )
 
