@@ -7,3 +7,4 @@ pub mod Offered
 pub mod OneResult
 pub mod OneWalk
 pub mod Transfers
+pub mod Turns

@@ -5,6 +5,7 @@ use Prim.Native.Nat.{ℕ, zero, suc, _+_, _-_, _*_, _≤_, _<_, _/_}
 use mathlib.Core.Path.{_≡_, _∙_, ap, ap₂, refl, subst, sym}
 use mathlib.Core.Bool.{not, _&&_}
 use mathlib.Core.List.{List, [], _∷_, _++_, append-assoc, append-nil}
+use mathlib.Core.Logic.{_⊎_, inl, inr}
 use native.Mathlib.Omega.{arith}
 use lib.Dec.{eqb, ltb}
 use lib.ListN.{length, getD, take, drop, length-append, length-drop, take-append-drop}
@@ -17,7 +18,7 @@ use Rattle.checks.proofs.Choice.{by-cond}
 use Rattle.usb.specs.Decode.{decodeAnswer, packetAt, restAt}
 use Rattle.usb.specs.Header.{firstByte, headerWith, secondByte}
 use Rattle.usb.specs.Transfers.{DecodedAs, HeaderDecoded, OnlyHeaders, Joined, none, one-more, toEnd}
-use Rattle.usb.specs.Transfers.{EndIsWhole, JoinedWalked, PlaceBeyond, PlaceStays, WalkEnds, WalkJoined, WalkStays}
+use Rattle.usb.specs.Transfers.{EndIsWhole, EndOrSeven, JoinedWalked, PlaceBeyond, PlaceStays, WalkEnds, WalkJoined, WalkStays}
 use Rattle.usb.specs.Walk.{Walk, placeAfter, placeBehind, walk, walkAnswer, wholeWalk, yieldedBy}
 use Rattle.usb.proofs.DecodeLaws.{Accepted, accepted, ended, found}
 
@@ -76,14 +77,15 @@ only-headers bytes n e =
 
 -- ---- one answer of a walk
 
--- what an answer at a place of a transfer can be: a packet, or none, and then it says end only at the transfer's end
+-- what an answer at a place of a transfer can be: a packet, or none, and then it is end, which it says only at the transfer's end, or a refusal
 data Stands (transfer : List ℕ) (place : ℕ) (a : Answer) : Type 0 where
   some-packet : (n : ℕ) → a ≡ answer done (n ∷ []) → Stands transfer place a
-  no-packet : a .values ≡ [] → (a ≡ answer done [] → place ≡ length transfer) → Stands transfer place a
+  no-packet : a .values ≡ [] → (a ≡ answer done [] → place ≡ length transfer) → (a ≡ answer done []) ⊎ (a ≡ answer rxFailure [])
+      → Stands transfer place a
 
 -- a refusal yields none, and does not say end
 refusal : (t : List ℕ) (p : ℕ) → Stands t p (answer rxFailure [])
-refusal t p = no-packet refl (λ e. absurd (omega (arith, ap (λ (a : Answer). a .number) e)))
+refusal t p = no-packet refl (λ e. absurd (omega (arith, ap (λ (a : Answer). a .number) e))) (inr refl)
 
 -- each test of the definition, in its order
 stands : (transfer : List ℕ) (place : ℕ) → Stands transfer place (walkAnswer transfer place)
@@ -91,12 +93,18 @@ unfolding walkAnswer decodeAnswer
 stands t p =
     let s = drop p t in
     by-cond (Stands t p) (ltb (length t) p) _ _ (λ _. refusal t p) (λ _.
-    by-cond (Stands t p) (eqb p (length t)) _ _ (λ h. no-packet refl (λ _. eqb-true p (length t) h)) (λ _.
+    by-cond (Stands t p) (eqb p (length t)) _ _ (λ h. no-packet refl (λ _. eqb-true p (length t) h) (inl refl)) (λ _.
     by-cond (Stands t p) (ltb (length s) 4) _ _ (λ _. refusal t p) (λ _.
     by-cond (Stands t p) (not (eqb (getD s 0 0) firstByte && eqb (getD s 1 0) secondByte)) _ _ (λ _. refusal t p) (λ _.
     by-cond (Stands t p) (ltb (getD s 3 0) 4) _ _ (λ _. refusal t p) (λ _.
     by-cond (Stands t p) (ltb (length s) (getD s 3 0)) _ _ (λ _. refusal t p) (λ _.
     some-packet (getD s 3 0 - 4) refl))))))
+
+pub end-or-seven : EndOrSeven
+end-or-seven t p h = elim (stands t p) [
+  | some-packet n e ↦ absurd (omega (arith, ap length (sym h ∙ values e)))
+  | no-packet e f g ↦ g
+]
 
 pub place-stays : PlaceStays
 place-stays t p e = ap (placeBehind p) e
@@ -139,11 +147,11 @@ ends : (k : ℕ) (t : List ℕ) (p : ℕ) → length t < p + (4 * k + 4) → wal
 unfolding walk
 ends zero t p h = elim (stands t p) [
   | some-packet n e ↦ absurd (omega (arith, found t p n e .inside))
-  | no-packet e f ↦ e
+  | no-packet e f g ↦ e
 ]
 ends (suc k) t p h = elim (stands t p) [
   | some-packet n e ↦ ap (λ (w : Walk). w .last .values) (packet-first t k p n e) ∙ ends k t (p + (4 + n)) (omega arith)
-  | no-packet e f ↦ ap (λ (w : Walk). w .last .values) (stays t p e (suc k)) ∙ e
+  | no-packet e f g ↦ ap (λ (w : Walk). w .last .values) (stays t p e (suc k)) ∙ e
 ]
 
 pub walk-ends : WalkEnds
@@ -160,7 +168,7 @@ ended-stays (suc m) (suc k) t p h e = elim (stands t p) [
       packet-first t m p n f
       ∙ ap (behind (bytesOf (part (p + 4) n) t)) (ended-stays m k t (p + (4 + n)) (omega arith) ended)
       ∙ sym (packet-first t k p n f)
-  | no-packet f g ↦ stays t p f (suc m) ∙ sym (stays t p f (suc k))
+  | no-packet f g h ↦ stays t p f (suc m) ∙ sym (stays t p f (suc k))
 ]
 
 pub walk-stays : WalkStays
@@ -214,7 +222,7 @@ covered (suc k) t p h = elim (stands t p) [
   | some-packet n e ↦
       subst (Covered t p) (sym (packet-first t k p n e))
       (covered-more t p n (walk k t (p + (4 + n))) e (covered k t (p + (4 + n)) (found t p n e .inside)))
-  | no-packet e f ↦ subst (Covered t p) (sym (stays t p e (suc k))) (covered-none t p h)
+  | no-packet e f g ↦ subst (Covered t p) (sym (stays t p e (suc k))) (covered-none t p h)
 ]
 
 pub walk-joined : WalkJoined
@@ -234,7 +242,7 @@ last-there (suc k) t p = last-there k t (placeAfter t p)
 ends-there : (t : List ℕ) (p : ℕ) → walkAnswer t p ≡ answer done [] → p ≡ length t
 ends-there t p h = elim (stands t p) [
   | some-packet n e ↦ ended n (sym h ∙ e)
-  | no-packet e f ↦ f h
+  | no-packet e f g ↦ f h
 ]
 
 pub end-is-whole : EndIsWhole

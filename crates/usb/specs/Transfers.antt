@@ -3,6 +3,7 @@
 use Prim.Native.Nat.{ℕ, _+_, _≤_, _<_, _/_}
 use mathlib.Core.Path.{_≡_}
 use mathlib.Core.Bool.{cond}
+use mathlib.Core.Logic.{_⊎_}
 use mathlib.Core.List.{List, [], _∷_, _++_}
 use lib.ListN.{length, take}
 use Rattle.checks.specs.Numbers.{answer, done, rxFailure}
@@ -44,7 +45,7 @@ pub data Joined : List (List ℕ) → List ℕ → Type 0 where
 abbrev pub toEnd : List (List ℕ) → ℕ → Walk
 toEnd ps place = record { packets = ps; place = place; last = answer done [] }
 
--- it ends: after at most one packet for each four bytes the answer is end or 7
+-- it ends: after at most one packet for each four bytes an answer yields nothing
 abbrev pub WalkEnds : Type 0
 WalkEnds = (transfer : List ℕ) → wholeWalk transfer .last .values ≡ []
 
@@ -52,7 +53,12 @@ WalkEnds = (transfer : List ℕ) → wholeWalk transfer .last .values ≡ []
 abbrev pub WalkStays : Type 0
 WalkStays = (transfer : List ℕ) (k : ℕ) → walk (length transfer / 4 + k) transfer 0 ≡ wholeWalk transfer
 
--- where an answer yields nothing, the place stays; so it does beyond the transfer, where the answer is 7
+-- an answer that yields nothing is end or 7
+abbrev pub EndOrSeven : Type 0
+EndOrSeven = (transfer : List ℕ) (place : ℕ) → walkAnswer transfer place .values ≡ []
+    → (walkAnswer transfer place ≡ answer done []) ⊎ (walkAnswer transfer place ≡ answer rxFailure [])
+
+-- and the place stays; so it does beyond the transfer, where the answer is 7
 abbrev pub PlaceStays : Type 0
 PlaceStays = (transfer : List ℕ) (place : ℕ) → walkAnswer transfer place .values ≡ [] → placeAfter transfer place ≡ place
 

@@ -87,3 +87,26 @@ walk (suc k) transfer place =
 -- one for each four bytes
 abbrev pub wholeWalk : List ℕ → Walk
 wholeWalk transfer = walk (length transfer / 4) transfer 0
+
+-- ---- calls of `next`, and such a walk. The proof: `proofs/Turns.antt`
+
+-- each on the walker that the one before handed back
+abbrev pub InTurn : Walker → List Yielded → Type 0
+InTurn w [] = Unit {0}
+InTurn w (y ∷ ys) = Yields w y × InTurn (y .walker) ys
+
+-- the packet that came with an answer
+abbrev pub handed : Walked → List ℕ → List (List ℕ)
+handed (Packet n) bytes = bytes ∷ []
+handed End bytes = []
+handed RxFailure bytes = []
+
+-- the packets of several
+unfoldable pub handedAll : List Yielded → List (List ℕ)
+handedAll [] = []
+handedAll (y ∷ ys) = handed (y .answer) (now (y .packet)) ++ handedAll ys
+
+-- the packets that calls in turn yield are those of a walk of as many answers
+abbrev pub CallsWalk : Type 0
+CallsWalk = (w : Walker) (ys : List Yielded) → InTurn w ys
+    → handedAll ys ≡ walk (length ys) (now (w .transfer)) (w .place) .packets
