@@ -3,17 +3,18 @@
 -- Assumes nothing.
 use Prim.Native.Nat.{ℕ, _+_, _-_, _≤_}
 use mathlib.Core.Path.{_≡_, _∙_, ap, refl, sym}
-use mathlib.Core.Bool.{Bool, true, false, cond}
+use mathlib.Core.Bool.{Bool, true, false, cond, not, _&&_, false≢true}
 use mathlib.Core.List.{List, [], _∷_, _++_, append-assoc, append-nil}
 use native.Mathlib.Omega.{arith}
-use lib.Dec.{leb}
+use lib.Dec.{eqb, leb}
 use lib.ListN.{length, take}
 use lib.Seq.{length-take-le}
 use borrow.Author.Tests.{leb-true}
+use Rattle.checks.specs.Numbers.{answer, badPacket, done, noRoom}
 use Rattle.checks.specs.Output.{putAt}
 use Rattle.checks.proofs.Choice.{left, right}
 use Rattle.checks.proofs.Output.{length-put, take-put}
-use Rattle.usb.specs.Builder.{appendOutput, fits, limit, takes, usedAfter}
+use Rattle.usb.specs.Builder.{appendAnswer, appendOutput, fits, limit, takes, usedAfter}
 use Rattle.usb.specs.Header.{framed, sendable}
 use Rattle.usb.specs.Transfers.{Building, BuiltBytes, BuiltWalked, Joined, none, offered, one-more, toEnd, transferOf, usedBytes}
 use Rattle.usb.specs.Walk.{wholeWalk}
@@ -24,13 +25,23 @@ use Rattle.usb.proofs.Transfers.{joined-walked}
 
 -- a packet that is taken has room behind the used bytes
 takes-room : (size used room : ℕ) → takes size used room ≡ true → used + (size + 4) ≤ room
-takes-room size used room h =
-    let low = leb used (limit room) in
-    let high = leb (size + 4) (limit room - used) in
-    let both = right (sendable size) (fits size used room) h in
-    let behind-used : used ≤ limit room = leb-true used (limit room) (left low high both) in
-    let below-limit : size + 4 ≤ limit room - used = leb-true (size + 4) (limit room - used) (right low high both) in
-    omega (arith, limit-room room)
+unfolding appendAnswer
+takes-room size used room h = go (sendable size) (fits size used room) refl h
+  where
+    low : Bool
+    low = leb used (limit room)
+
+    high : Bool
+    high = leb (size + 4) (limit room - used)
+
+    go : (s f : Bool) → (low && high) ≡ f
+        → eqb (cond (not s) (answer badPacket []) (cond (not f) (answer noRoom []) (answer done [])) .number) done ≡ true → used + (size + 4) ≤ room
+    go true true e h =
+        let behind-used : used ≤ limit room = leb-true used (limit room) (left low high e) in
+        let below-limit : size + 4 ≤ limit room - used = leb-true (size + 4) (limit room - used) (right low high e) in
+        omega (arith, limit-room room)
+    go true false e h = absurd (false≢true h)
+    go false f e h = absurd (false≢true h)
 
 -- the used bytes are those before, and behind them the packets that were taken, each behind its header
 record BuiltOn (out : List ℕ) (used : ℕ) (b : Building) : Type 0 where

@@ -3,7 +3,7 @@
 use Prim.Native.Nat.{ℕ, _+_, _-_}
 use mathlib.Core.Bool.{Bool, cond, not, _&&_}
 use mathlib.Core.List.{List, []}
-use lib.Dec.{leb}
+use lib.Dec.{eqb, leb}
 use lib.ListN.{length}
 use Rattle.checks.specs.Numbers.{Answer, answer, badPacket, done, noRoom}
 use Rattle.checks.specs.Output.{putAt}
@@ -32,9 +32,9 @@ appendAnswer size used room =
     (cond (not (fits size used room)) (answer noRoom [])
     (answer done []))
 
--- a packet that is taken
+-- a packet that is taken: it is not refused
 abbrev pub takes : ℕ → ℕ → ℕ → Bool
-takes size used room = sendable size && fits size used room
+takes size used room = eqb (appendAnswer size used room .number) done
 
 -- the used count after it
 unfoldable pub usedAfter : ℕ → ℕ → ℕ → ℕ

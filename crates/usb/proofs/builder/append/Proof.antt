@@ -5,7 +5,7 @@ use mathlib.Core.Path.{_≡_, _∙_, ap, ap₂, refl, sym}
 use mathlib.Core.Bool.{Bool, true, false, cond, not, _&&_}
 use mathlib.Core.List.{List, []}
 use native.Mathlib.Omega.{arith}
-use lib.Dec.{leb}
+use lib.Dec.{eqb, leb}
 use lib.ListN.{drop, length, take}
 use borrow.Author.Needs.{needs}
 use borrow.Author.Tests.{le-leb, leb-true, lt-leb}
@@ -36,35 +36,48 @@ abbrev Leaves : List ℕ → List ℕ → ℕ → Answer → ℕ → List ℕ �
 Leaves packet out used a n after = (a ≡ appendAnswer (length packet) used (length out))
     × ((n ≡ usedAfter (length packet) used (length out)) × (after ≡ appendOutput packet used out))
 
--- by the two tests on the packet and on the room
-by-tests : (packet out : List ℕ) (used : ℕ) (s f : Bool) → sendable (length packet) ≡ s → fits (length packet) used (length out) ≡ f
-    → Leaves packet out used (cond (not s) (answer badPacket []) (cond (not f) (answer noRoom []) (answer done [])))
-    (cond (s && f) (used + (length packet + 4)) used) (cond (s && f) (putAt used (framed packet) out) out)
-unfolding appendAnswer usedAfter appendOutput
-by-tests packet out used s f h k =
-    let both = ap₂ (λ (x y : Bool). x && y) (sym h) (sym k) in (
-      ap₂ (λ (x y : Bool). cond (not x) (answer badPacket []) (cond (not y) (answer noRoom []) (answer done []))) (sym h) (sym k),
-      (ap (λ (t : Bool). cond t (used + (length packet + 4)) used) both, ap (λ (t : Bool). cond t (putAt used (framed packet) out) out) both),
-    )
+-- the count and the output go by the answer
+by-answer : (packet out : List ℕ) (used : ℕ) (a : Answer) → a ≡ appendAnswer (length packet) used (length out)
+    → Leaves packet out used a (cond (eqb (a .number) done) (used + (length packet + 4)) used)
+    (cond (eqb (a .number) done) (putAt used (framed packet) out) out)
+unfolding usedAfter appendOutput
+by-answer packet out used a e = (
+  e,
+  (
+    ap (λ (b : Answer). cond (eqb (b .number) done) (used + (length packet + 4)) used) e,
+    ap (λ (b : Answer). cond (eqb (b .number) done) (putAt used (framed packet) out) out) e,
+  ),
+)
+
+-- and the answer by the two tests, on the packet and on the room
+by-tests : (size used room : ℕ) (s f : Bool) → sendable size ≡ s → fits size used room ≡ f
+    → cond (not s) (answer badPacket []) (cond (not f) (answer noRoom []) (answer done [])) ≡ appendAnswer size used room
+unfolding appendAnswer
+by-tests size used room s f h k =
+    ap₂ (λ (x y : Bool). cond (not x) (answer badPacket []) (cond (not y) (answer noRoom []) (answer done []))) (sym h) (sym k)
 
 no-room : (packet out : List ℕ) (used : ℕ) → length packet ≤ 251 → limit (length out) < used + (length packet + 4)
     → Leaves packet out used (answer noRoom []) used out
 no-room packet out used small full =
-    by-tests packet out used true false (le-leb (length packet) 251 small) (not-below used (length packet + 4) (limit (length out)) full)
+    by-answer packet out used (answer noRoom [])
+    (by-tests (length packet) used (length out) true false (le-leb (length packet) 251 small)
+    (not-below used (length packet + 4) (limit (length out)) full))
 
 -- what is written into the part behind the used bytes is written there in the output
 with-room : (packet out : List ℕ) (used : ℕ) (back : List ℕ) → length packet ≤ 251
     → used + (length packet + 4) ≤ length out → used + (length packet + 4) ≤ 512 → back ≡ atStart (framed packet) (take (length out - used) (drop used out))
     → Leaves packet out used (answer done []) (used + (length packet + 4)) (putMid used (length out - used) out back)
-with-room packet out used back small room most e =
+with-room packet out used back small room most written =
     let free = below used (length packet + 4) (limit (length out)) (limit-least (used + (length packet + 4)) (length out) room most) in
-    let all = by-tests packet out used true true (le-leb (length packet) 251 small) free in
-    (all .0, (all .1 .0, put-lent used (framed packet) out back (omega arith) e ∙ all .1 .1))
+    let e = by-tests (length packet) used (length out) true true (le-leb (length packet) 251 small) free in
+    let all = by-answer packet out used (answer done []) e in
+    (all .0, (all .1 .0, put-lent used (framed packet) out back (omega arith) written ∙ all .1 .1))
 
 returns : tie.Need-returns
 returns c =
     let a = c .before .before .before .args in
-    by-tests (a .packet .now) (a .out .now) (a .used) false _ (lt-leb _ _ (c .if1 .taken)) refl
+    by-answer (a .packet .now) (a .out .now) (a .used) (answer badPacket [])
+    (by-tests (length (a .packet .now)) (a .used) (length (a .out .now)) false _ (lt-leb _ _ (c .if1 .taken)) refl)
 
 returns-2 : tie.Need-returns-2
 returns-2 c =
