@@ -1,4 +1,4 @@
--- Laws of `atStart`, for loops that write an output byte after byte: what a store behind the bytes makes of it, its length, and writes that
+-- Laws of `atStart`, for what writes an output byte after byte or copies into it: what a store behind the bytes makes of it, its length, and writes that
 -- follow one another. A write from a later place on is `putAt`, also where the rest of the output is lent and comes back. Each holds since the
 -- bytes before the seam and those behind it are apart. Assumes nothing.
 use Prim.Native.Nat.{ℕ, suc, _+_, _-_, _≤_, _<_}
@@ -8,7 +8,7 @@ use native.Mathlib.Nat.{le-of-lt}
 use native.Mathlib.Numerals.{add-one}
 use native.Mathlib.Omega.{arith}
 use lib.ListN.{length, getD, set, take, drop, drop-of-length-le, length-append, length-drop, take-append-drop}
-use lib.Seq.{append-snoc, drop-append-add, drop-cons, drop-drop, length-take-le, set-append-seam, take-at, take-suc}
+use lib.Seq.{append-snoc, drop-append-add, drop-cons, drop-drop, length-take-le, set-append-seam, take-at, take-length}
 use borrow.Rule.Slice.PartAt.{part-to-end}
 use borrow.Rule.Slice.PartMut.{putMid}
 use Rattle.checks.specs.Output.{atStart, putAt}
@@ -24,14 +24,9 @@ start-next xs d b h =
     ∙ sym (append-snoc xs b behind)
     ∙ ap (λ (n : ℕ). xs ++ (b ∷ []) ++ drop n d) (sym longer)
 
--- a turn of a copy: i bytes of a list are written, and its next one is stored behind them
-pub start-copied : (bytes d : List ℕ) (i : ℕ) → i < length bytes → i < length d
-    → set (atStart (take i bytes) d) i (getD bytes i 0) ≡ atStart (take (i + 1) bytes) d
-start-copied bytes d i hb hd =
-    let e : length (take i bytes) ≡ i = length-take-le i bytes (le-of-lt hb) in
-    ap (λ (n : ℕ). set (atStart (take i bytes) d) n (getD bytes i 0)) (sym e)
-    ∙ start-next (take i bytes) d (getD bytes i 0) (omega arith)
-    ∙ ap (λ (xs : List ℕ). atStart xs d) (sym (take-suc bytes i 0 hb) ∙ ap (λ (n : ℕ). take n bytes) (sym (add-one i)))
+-- what the kit's `bytes::copy` says that it leaves
+pub start-copied : (bytes d made : List ℕ) → made ≡ take (length bytes) bytes ++ drop (length bytes) d → made ≡ atStart bytes d
+start-copied bytes d made e = e ∙ ap (λ (xs : List ℕ). xs ++ drop (length bytes) d) (take-length bytes)
 
 -- the output keeps its length
 pub length-start : (xs d : List ℕ) → length xs ≤ length d → length (atStart xs d) ≡ length d

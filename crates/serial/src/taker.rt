@@ -32,11 +32,7 @@ fn copy_packet(stored: &[u8], n: usize, out: &mut [u8])
     requires { ⌜ (n + 2 ≤ length (now stored)) × (n ≤ length (now out)) ⌝ }
     ensures { λ r. ⌜ now (out .exit) ≡ atStart (take n (drop 2 (now (stored .entry)))) (now (out .entry)) ⌝ }
 {
-    let mut i = 0;
-    while i < n {
-        out[i] = stored[i + 2];
-        i += 1;
-    }
+    bytes::copy(&stored[2..n + 2], out);
 }
 
 impl Receiver {

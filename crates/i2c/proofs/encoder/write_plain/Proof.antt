@@ -6,12 +6,11 @@ use mathlib.Core.List.{List, [], _∷_, _++_}
 use native.Mathlib.Nat.{add-zero}
 use native.Mathlib.Omega.{arith}
 use lib.ListN.{drop, length, length-drop, length-set, set, take}
-use lib.Seq.{take-length}
 use borrow.Author.Needs.{needs}
 use borrow.Rule.Slice.PartAt.{part-to-end}
 use borrow.Rule.Slice.PartMut.{putMid}
 use Rattle.checks.specs.Output.{atStart, putAt}
-use Rattle.checks.proofs.Output.{length-start, put-four, put-lent, put-put}
+use Rattle.checks.proofs.Output.{length-start, put-four, put-lent, put-put, start-copied}
 use Rattle.i2c.specs.Frame.{addressed, commandCode, headed, plain}
 use Rattle.i2c.proofs.encoder.write_plain.Statement.{statement}
 use Rattle.i2c.proofs.encoder.write_plain.Tie as tie
@@ -32,7 +31,7 @@ all-written own dest payload out rest room e =
     let d = stored own dest payload out in
     let four : List ℕ = (dest * 2) ∷ commandCode ∷ (length payload + 1) ∷ (own * 2 + 1) ∷ [] in
     put-lent 4 payload d rest (omega (arith, stored-length own dest payload out))
-    (e ∙ ap (λ (bytes : List ℕ). bytes ++ drop (length payload) (take (length d - 4) (drop 4 d))) (take-length payload))
+    (start-copied payload (take (length d - 4) (drop 4 d)) rest e)
     ∙ ap (putAt 4 payload) (put-four 0 (dest * 2) commandCode (length payload + 1) (own * 2 + 1) out (omega arith))
     ∙ put-put 0 four payload out (omega arith)
     ∙ ap (λ (first : ℕ). atStart (headed first (addressed own 1) payload) out) (sym (add-zero (dest * 2)))

@@ -5,13 +5,13 @@ use mathlib.Core.Path.{_≡_, _∙_, ap, sym}
 use mathlib.Core.List.{List, [], _++_}
 use native.Mathlib.Omega.{arith}
 use lib.ListN.{drop, length, take}
-use lib.Seq.{length-take-le, take-length}
+use lib.Seq.{length-take-le}
 use borrow.Author.Needs.{needs}
 use borrow.Author.Tests.{eq-eqb, le-leb}
 use borrow.Rule.Slice.PartMut.{putMid}
 use Rattle.checks.specs.Numbers.{Answer, answer, badPacket, done}
 use Rattle.checks.specs.Output.{atStart, putAt}
-use Rattle.checks.proofs.Output.{length-start, put-lent, put-put}
+use Rattle.checks.proofs.Output.{length-start, put-lent, put-put, start-copied}
 use Rattle.usb.specs.declared.head.Headed.{Headed}
 use Rattle.usb.specs.declared.head.Headed.the-variants.{Done, BadPacket}
 use Rattle.usb.specs.Header.{framed, headedAnswer, headerAnswer, headerOf, headerOutput}
@@ -38,8 +38,7 @@ both-written packet part head tail r small room e w t =
     let out = head ++ drop 4 part in
     let started : out ≡ atStart header part = ap (λ (h : List ℕ). h ++ drop 4 part) headed in
     let long : 4 ≤ length out = omega (arith, ap length started, length-start header part (omega arith)) in
-    let copied = ap (λ (bytes : List ℕ). bytes ++ drop (length packet) (take (length out - 4) (drop 4 out))) (take-length packet) in
-    put-lent 4 packet out tail long (t ∙ copied)
+    put-lent 4 packet out tail long (start-copied packet (take (length out - 4) (drop 4 out)) tail t)
     ∙ ap (putAt 4 packet) started
     ∙ put-put 0 header packet part (omega arith)
 
