@@ -1,22 +1,23 @@
 -- Laws of decode's definitions: what each check makes of the answer, and back, what an answer tells of the input. The definition tests one thing
 -- after the other, so each test's outcome gives the answer, and a source is answered only behind all of them. Assumes nothing.
 use Prim.Native.Nat.{ℕ, _-_, _/_, _≤_, _<_}
-use mathlib.Core.Path.{_≡_, ap, refl}
+use mathlib.Core.Path.{_≡_, refl}
 use mathlib.Core.Bool.{Bool, true, false, cond, not}
 use mathlib.Core.List.{List, [], _∷_}
 use native.Mathlib.Omega.{arith}
 use lib.Dec.{eqb, ltb}
 use lib.ListN.{length, getD}
 use borrow.Author.Tests.{eq-eqb, eqb-false, eqb-true, le-ltb, lt-ltb, ltb-false, ne-eqb}
-use Rattle.checks.specs.Numbers.{Answer, answer, done, invalidInput}
+use Rattle.checks.specs.Numbers.{answer, done, invalidInput}
 use Rattle.checks.specs.PacketErrorCode.{pecOf}
 use Rattle.checks.specs.Part.{noPart, part}
+use Rattle.checks.proofs.Numbers.{same-number, same-value}
 use Rattle.i2c.specs.Decode.{body, bodyAnswer, butLast, decodeAnswer, lastByte, payloadPart}
 use Rattle.i2c.specs.Frame.{byteCount, commandCode}
 
 -- a refusal is not a source
 not-done : (vs : List ℕ) → answer invalidInput [] ≡ answer done vs → ⊥
-not-done vs e = omega (arith, ap (λ (a : Answer). a .number) e)
+not-done vs e = omega (arith, same-number e)
 
 -- ---- header and payload
 
@@ -76,7 +77,7 @@ body-taken bytes source e =
           long = ltb-false (length bytes) 4 p;
           counted = eqb-true (getD bytes 2 0) (byteCount (length bytes - 4)) q;
           command = eqb-true (getD bytes 1 0) commandCode r;
-          halved = ap (λ (a : Answer). getD (a .values) 0 0) e;
+          halved = same-value e;
         }
 
 -- ---- the PEC before it

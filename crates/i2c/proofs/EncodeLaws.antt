@@ -1,15 +1,15 @@
 -- Laws of encode's definitions: what each test makes of the answer, and back, what an answer of done tells. The definition tests one thing after
 -- the other, so each test's outcome gives the answer. Assumes nothing.
 use Prim.Native.Nat.{ℕ, _≤_, _<_}
-use mathlib.Core.Path.{_≡_, ap, refl}
+use mathlib.Core.Path.{_≡_, refl}
 use mathlib.Core.Bool.{Bool, true, false, cond, not}
 use mathlib.Core.List.{[], _∷_}
 use native.Mathlib.Omega.{arith}
 use lib.Dec.{leb, ltb}
-use lib.ListN.{getD}
 use borrow.Author.Tests.{le-leb, le-ltb, leb-true, lt-leb, lt-ltb, ltb-false}
-use Rattle.checks.specs.Numbers.{Answer, answer, badAddress, badArgument, done}
+use Rattle.checks.specs.Numbers.{answer, badAddress, badArgument, done}
 use Rattle.checks.proofs.Choice.{left, right}
+use Rattle.checks.proofs.Numbers.{same-number, same-value}
 use Rattle.i2c.specs.Encode.{addresses, encodeAnswer, frameSize}
 
 -- of a payload of this size, into an output of `room` bytes
@@ -57,7 +57,7 @@ module _ (own dest size room : ℕ) (pec : Bool) where
           → cond (not both) (answer badAddress []) (cond long (answer badArgument []) (cond short (answer badArgument [])
           (answer done (frameSize pec size ∷ [])))) ≡ answer done (n ∷ []) → Taken n
       go true false false p q r e =
-          let same : frameSize pec size ≡ n = ap (λ (a : Answer). getD (a .values) 0 0) e in
+          let same : frameSize pec size ≡ n = same-value e in
           record {
             own-fits = leb-true own 127 (left (leb own 127) (leb dest 127) p);
             dest-fits = leb-true dest 127 (right (leb own 127) (leb dest 127) p);
@@ -65,6 +65,6 @@ module _ (own dest size room : ℕ) (pec : Bool) where
             whole = same;
             fits = omega (arith, ltb-false room (frameSize pec size) r);
           }
-      go true false true p q r e = absurd (omega (arith, ap (λ (a : Answer). a .number) e))
-      go true true short p q r e = absurd (omega (arith, ap (λ (a : Answer). a .number) e))
-      go false long short p q r e = absurd (omega (arith, ap (λ (a : Answer). a .number) e))
+      go true false true p q r e = absurd (omega (arith, same-number e))
+      go true true short p q r e = absurd (omega (arith, same-number e))
+      go false long short p q r e = absurd (omega (arith, same-number e))

@@ -1,4 +1,5 @@
--- What is proved of encode and decode together (`proofs/`). Assumes nothing.
+-- What is proved of the frame (`proofs/FrameLaws.antt`), of decode (`proofs/Received.antt`), and of encode and decode together
+-- (`proofs/RoundTrip.antt`). Assumes nothing.
 use Prim.Native.Nat.{ℕ, _/_, _≤_}
 use mathlib.Core.Path.{_≡_}
 use mathlib.Core.Bool.{Bool, true, false}

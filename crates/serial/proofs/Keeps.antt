@@ -11,8 +11,9 @@ use lib.ListN.{length, getD, set, length-replicate, length-set}
 use lib.Seq.{getD-set-other, getD-set-same}
 use borrow.Author.Tests.{eqb-false, eqb-true}
 use Rattle.checks.specs.Laws.{Bytes}
-use Rattle.checks.specs.Numbers.{Answer, answer, done}
+use Rattle.checks.specs.Numbers.{answer, done}
 use Rattle.checks.proofs.Choice.{by-cond}
+use Rattle.checks.proofs.Numbers.{same-number}
 use Rattle.serial.specs.declared.receiver.Position.{Position}
 use Rattle.serial.specs.declared.receiver.Position.the-variants.{FrameSearch, SerialRevision, ByteCount, Data, DataEscaped, Check, FrameEnd}
 use Rattle.serial.specs.declared.receiver.Receiver.{Receiver}
@@ -133,5 +134,5 @@ reachable-consistent h bytes = run-keeps freshOf h fresh-consistent bytes
 pub never-inconsistent : NeverInconsistent
 never-inconsistent h b bytes =
     let s = runOf freshOf h in
-    ap (λ (a : Answer). a .number) (step-answered b s (stepOf b s) refl .1)
+    same-number (step-answered b s (stepOf b s) refl .1)
     ∙ ap (λ (t : Bool). cond t (answer done (handedAt (s .position) b s)) (outcomeAnswer Inconsistent) .number) (reachable-consistent h bytes .fits)

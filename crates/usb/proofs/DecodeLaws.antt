@@ -8,8 +8,8 @@ use native.Mathlib.Omega.{arith}
 use lib.Dec.{eqb, ltb}
 use lib.ListN.{length, getD, drop, length-drop}
 use borrow.Author.Tests.{eq-eqb, eqb-true, le-ltb, lt-ltb, ltb-false, ne-eqb}
-use Rattle.checks.specs.Numbers.{Answer, answer, done, rxFailure}
-use Rattle.checks.proofs.Numbers.{matched}
+use Rattle.checks.specs.Numbers.{answer, done, rxFailure}
+use Rattle.checks.proofs.Numbers.{matched, same-number, same-value, same-values}
 use Rattle.usb.specs.declared.decoder.Decoded.{Decoded}
 use Rattle.usb.specs.declared.decoder.Decoded.the-variants.{Packet}
 use Rattle.usb.specs.declared.walker.Walked.{Walked}
@@ -80,15 +80,11 @@ pub record Accepted (input : List ℕ) (n : ℕ) : Type 0 where
 
 -- a refusal is not an acceptance
 pub refused : {C : Type 0} (n : ℕ) → answer rxFailure [] ≡ answer done (n ∷ []) → C
-refused n e = absurd (omega (arith, ap (λ (a : Answer). a .number) e))
+refused n e = absurd (omega (arith, same-number e))
 
 -- nor is the end
 pub ended : {C : Type 0} (n : ℕ) → answer done [] ≡ answer done (n ∷ []) → C
-ended n e = absurd (omega (arith, ap (λ (a : Answer). length (a .values)) e))
-
--- two acceptances of the same length
-pub same-size : (n m : ℕ) → answer done (n ∷ []) ≡ answer done (m ∷ []) → n ≡ m
-same-size n m e = ap (λ (a : Answer). getD (a .values) 0 0) e
+ended n e = absurd (omega (arith, ap length (same-values e)))
 
 pub accepted : (input : List ℕ) (n : ℕ) → decodeAnswer input ≡ answer done (n ∷ []) → Accepted input n
 unfolding decodeAnswer
@@ -107,7 +103,7 @@ accepted s n e =
     go false true true true over p q h k e = refused n e
     go false true true false true p q h k e = refused n e
     go false true true false false p q h k e =
-        let size : getD s 3 0 - 4 ≡ n = same-size (getD s 3 0 - 4) n e in
+        let size : getD s 3 0 - 4 ≡ n = same-value e in
         let over : getD s 3 0 ≤ length s = ltb-false (length s) (getD s 3 0) k in
         let under : 4 ≤ getD s 3 0 = ltb-false (getD s 3 0) 4 h in
         record {

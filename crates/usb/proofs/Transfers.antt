@@ -15,16 +15,13 @@ use borrow.Rule.Slice.PartAt.{part-to-end}
 use Rattle.checks.specs.Numbers.{Answer, answer, done, rxFailure}
 use Rattle.checks.specs.Part.{bytesOf, part}
 use Rattle.checks.proofs.Choice.{by-cond}
+use Rattle.checks.proofs.Numbers.{same-number, same-values}
 use Rattle.usb.specs.Decode.{decodeAnswer, packetAt, restAt}
 use Rattle.usb.specs.Header.{firstByte, headerWith, secondByte}
 use Rattle.usb.specs.Transfers.{DecodedAs, HeaderDecoded, OnlyHeaders, Joined, none, one-more, toEnd}
 use Rattle.usb.specs.Transfers.{EndIsWhole, EndOrSeven, JoinedWalked, PlaceBeyond, PlaceStays, WalkEnds, WalkJoined, WalkStays}
 use Rattle.usb.specs.Walk.{Walk, placeAfter, placeBehind, walk, walkAnswer, wholeWalk, yieldedBy}
 use Rattle.usb.proofs.DecodeLaws.{Accepted, accepted, ended, found}
-
--- the values of equal answers
-values : {a b : Answer} → a ≡ b → a .values ≡ b .values
-values e = ap (λ (a : Answer). a .values) e
 
 -- ---- decode
 
@@ -45,7 +42,7 @@ pub header-decoded : HeaderDecoded
 header-decoded third packet rest =
     let header = headerWith third (length packet) in
     let bytes = header ++ (packet ++ rest) in
-    let e = values (decodes third packet rest) in (
+    let e = same-values (decodes third packet rest) in (
       decodes third packet rest,
       ap (λ (v : List ℕ). bytesOf (packetAt 0 v) bytes) e ∙ take-append-seam packet rest,
       ap (λ (v : List ℕ). bytesOf (restAt (length bytes) v) bytes) e
@@ -71,7 +68,7 @@ header-first bytes n a =
 
 pub only-headers : OnlyHeaders
 only-headers bytes n e =
-    subst (λ (v : List ℕ). DecodedAs bytes (bytesOf (packetAt 0 v) bytes) (bytesOf (restAt (length bytes) v) bytes)) (sym (values e))
+    subst (λ (v : List ℕ). DecodedAs bytes (bytesOf (packetAt 0 v) bytes) (bytesOf (restAt (length bytes) v) bytes)) (sym (same-values e))
     (subst (λ (rest : List ℕ). DecodedAs bytes (take n (drop 4 bytes)) rest) (sym (part-to-end bytes (4 + n)))
     (header-first bytes n (accepted bytes n e)))
 
@@ -85,7 +82,7 @@ data Stands (transfer : List ℕ) (place : ℕ) (a : Answer) : Type 0 where
 
 -- a refusal yields none, and does not say end
 refusal : (t : List ℕ) (p : ℕ) → Stands t p (answer rxFailure [])
-refusal t p = no-packet refl (λ e. absurd (omega (arith, ap (λ (a : Answer). a .number) e))) (inr refl)
+refusal t p = no-packet refl (λ e. absurd (omega (arith, same-number e))) (inr refl)
 
 -- each test of the definition, in its order
 stands : (transfer : List ℕ) (place : ℕ) → Stands transfer place (walkAnswer transfer place)
@@ -102,7 +99,7 @@ stands t p =
 
 pub end-or-seven : EndOrSeven
 end-or-seven t p h = elim (stands t p) [
-  | some-packet n e ↦ absurd (omega (arith, ap length (sym h ∙ values e)))
+  | some-packet n e ↦ absurd (omega (arith, ap length (sym h ∙ same-values e)))
   | no-packet e f g ↦ g
 ]
 
@@ -113,7 +110,7 @@ pub place-beyond : PlaceBeyond
 unfolding walkAnswer
 place-beyond t p h =
     let e : walkAnswer t p ≡ answer rxFailure [] = simp (lt-ltb _ _ h) in
-    (e, place-stays t p (values e))
+    (e, place-stays t p (same-values e))
 
 -- ---- several answers
 
@@ -135,7 +132,7 @@ first-answer t k p v e = ap (after t k p) e
 -- a packet, and the walk from the place behind it
 packet-first : (t : List ℕ) (k p n : ℕ) → walkAnswer t p ≡ answer done (n ∷ [])
     → walk (suc k) t p ≡ behind (bytesOf (part (p + 4) n) t) (walk k t (p + (4 + n)))
-packet-first t k p n e = first-answer t k p (n ∷ []) (values e)
+packet-first t k p n e = first-answer t k p (n ∷ []) (same-values e)
 
 -- where there is none, a walk stays, however many answers there are
 stays : (t : List ℕ) (p : ℕ) → walkAnswer t p .values ≡ [] → (k : ℕ) → walk k t p ≡ walk 0 t p

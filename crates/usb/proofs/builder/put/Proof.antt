@@ -9,7 +9,8 @@ use lib.Seq.{length-take-le}
 use borrow.Author.Needs.{needs}
 use borrow.Author.Tests.{eq-eqb, le-leb}
 use borrow.Rule.Slice.PartMut.{putMid}
-use Rattle.checks.specs.Numbers.{Answer, answer, badPacket, done}
+use Rattle.checks.specs.Numbers.{answer, badPacket, done}
+use Rattle.checks.proofs.Numbers.{same-number}
 use Rattle.checks.specs.Output.{atStart, putAt}
 use Rattle.checks.proofs.Output.{length-start, put-lent, put-put, start-copied}
 use Rattle.usb.specs.declared.head.Headed.{Headed}
@@ -25,7 +26,7 @@ unfolding headerAnswer headerOutput
 header-written size lent written Done h k e w = w
 header-written size lent written BadPacket h k e w =
     let d : answer badPacket [] ≡ answer done [] = e ∙ simp (eq-eqb (length lent) 4 h, le-leb size 251 k) in
-    absurd (omega (arith, ap (λ (a : Answer). a .number) d))
+    absurd (omega (arith, same-number d))
 
 -- both writes are one
 both-written : (packet part head tail : List ℕ) (r : Headed) → length packet ≤ 251 → 4 + length packet ≤ length part

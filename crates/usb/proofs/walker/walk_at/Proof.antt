@@ -1,16 +1,17 @@
 -- `walk_at` meets its contract: a return stands behind the tests that the definition makes, in the same order, and what is decoded is the transfer from
--- the place on.
--- Assumes nothing.
+-- the place on. Assumes nothing.
 use Prim.Native.Nat.{ℕ, _-_, _≤_}
 use mathlib.Core.Path.{_≡_, _∙_, ap, sym}
 use mathlib.Core.List.{List}
+use native.Mathlib.Omega.{arith}
 use lib.ListN.{drop, length, take}
 use borrow.Author.Needs.{needs}
-use borrow.Author.Tests.{eq-eqb, le-ltb, lt-ltb, ne-eqb}
+use borrow.Author.Tests.{eq-eqb, le-ltb, ne-eqb}
 use borrow.Rule.Slice.PartAt.{part-to-end}
 use Rattle.checks.specs.Numbers.{Answer}
 use Rattle.usb.specs.Decode.{decodeAnswer, decodedAnswer}
 use Rattle.usb.specs.Walk.{walkAnswer}
+use Rattle.usb.proofs.Transfers.{place-beyond}
 use Rattle.usb.proofs.walker.walk_at.Statement.{statement}
 use Rattle.usb.proofs.walker.walk_at.Tie as tie
 
@@ -22,8 +23,9 @@ decoded-there s p a h k e =
     simp (le-ltb (length s) p h, ne-eqb p (length s) k) (e ∙ ap decodeAnswer (part-to-end s p))
 
 returns : tie.Need-returns
-unfolding walkAnswer
-returns c = simp (lt-ltb _ _ (c .if1 .taken))
+returns c =
+    let a = c .before .before .args in
+    sym (place-beyond (a .transfer .now) (a .place) (omega arith) .0)
 
 returns-2 : tie.Need-returns-2
 unfolding walkAnswer
