@@ -3,7 +3,7 @@ ghost use Prim.Native.Nat.{_+_, _≤_};
 ghost use mathlib.Core.Path.{_≡_};
 ghost use lib.ListN.{length};
 ghost use Rattle.checks.specs.Output.{atStart};
-ghost use Rattle.usb.specs.Builder.{appendAnswer, appendOutput, appendedAnswer, usedAfter};
+ghost use Rattle.usb.specs.Builder.{appendAnswer, appendOutput, appendedAnswer, limit, usedAfter};
 ghost use Rattle.usb.specs.Header.{framed};
 use crate::head::header;
 use crate::wire::HDR_LEN;
@@ -23,6 +23,16 @@ pub struct Built {
     pub used: usize,
 }
 
+// The smaller of a buffer's length and the largest transfer.
+fn limit_of(room: usize) -> usize
+    ensures { λ r. ⌜ r ≡ limit room ⌝ }
+{
+    if room <= TX_XFER_SIZE {
+        return room;
+    }
+    TX_XFER_SIZE
+}
+
 // Header and packet at the start of a part that has room for both.
 fn put(packet: &[u8], part: &mut [u8])
     requires { ⌜ (length (now packet) ≤ 251) × (4 + length (now packet) ≤ length (now part)) ⌝ }
@@ -32,9 +42,10 @@ fn put(packet: &[u8], part: &mut [u8])
     bytes::copy(packet, &mut part[4..]);
 }
 
-// Appends the packet behind its header to the `used` bytes of the output, and hands back how many are used then. It refuses a packet over 251 bytes (BadPacket, number 6), and
-// then a used count over the output's length or over 512, or fewer bytes left below the smaller of the two than header and packet have (NoRoom, number 8). A refusal
-// writes nothing and hands back the count that went in; what stands before and behind the appended bytes keeps its content.
+// Appends the packet behind its header to the `used` bytes of the output, and hands back how many are used then. It refuses a packet over 251 bytes
+// (BadPacket, number 6), and then a used count over the output's length or over 512, or fewer bytes left below the smaller of the two than header and
+// packet have (NoRoom, number 8). A refusal writes nothing and hands back the count that went in; what stands before and behind the appended bytes
+// keeps its content.
 pub fn append(packet: &[u8], out: &mut [u8], used: usize) -> Built
     ensures { λ r. ⌜ appendedAnswer (r .answer) ≡ appendAnswer (length (now (packet .entry))) used (length (now (out .entry))) ⌝ }
     ensures { λ r. ⌜ r .used ≡ usedAfter (length (now (packet .entry))) used (length (now (out .entry))) ⌝ }
@@ -47,25 +58,14 @@ pub fn append(packet: &[u8], out: &mut [u8], used: usize) -> Built
             used,
         };
     }
-    if used > out.len() {
+    let most = limit_of(out.len());
+    if used > most {
         return Built {
             answer: Appended::NoRoom,
             used,
         };
     }
-    if used > TX_XFER_SIZE {
-        return Built {
-            answer: Appended::NoRoom,
-            used,
-        };
-    }
-    if out.len() - used < size + HDR_LEN {
-        return Built {
-            answer: Appended::NoRoom,
-            used,
-        };
-    }
-    if TX_XFER_SIZE - used < size + HDR_LEN {
+    if most - used < size + HDR_LEN {
         return Built {
             answer: Appended::NoRoom,
             used,

@@ -12,9 +12,9 @@ pub enum Decoded {
     RxFailure,
 }
 
-// The length of the packet behind the header at the input's start; `packet` and `remainder` give the parts. It refuses (RxFailure, number 7), in this order:
-// fewer than 4 bytes; first two bytes that are not 1a b4; a length byte under 4; a length byte over the input's length. The third byte is not tested. It
-// changes nothing.
+// The length of the packet behind the header at the input's start; `packet` and `remainder` give the parts. It refuses (RxFailure, number 7), in this
+// order: fewer than 4 bytes; first two bytes that are not 1a b4; a length byte under 4; a length byte over the input's length. The third byte is not
+// tested. It changes nothing.
 pub fn decode(input: &[u8]) -> Decoded
     ensures { λ r. ⌜ decodedAnswer r ≡ decodeAnswer (now (input .entry)) ⌝ }
 {

@@ -12,8 +12,8 @@ pub enum Walked {
     RxFailure,
 }
 
-// What stands at a place of the transfer: a packet, or at its very end the end, also of an empty transfer. It refuses a place beyond the transfer, and a
-// place from which `decode` refuses (RxFailure, number 7). It changes nothing.
+// What stands at a place of the transfer: a packet, or at its very end the end, also of an empty transfer. It refuses a place beyond the transfer, and
+// a place from which `decode` refuses (RxFailure, number 7). It changes nothing.
 pub fn walk_at(transfer: &[u8], place: usize) -> Walked
     ensures { λ r. ⌜ walkedAnswer r ≡ walkAnswer (now (transfer .entry)) place ⌝ }
 {

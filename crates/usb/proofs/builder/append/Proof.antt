@@ -6,9 +6,10 @@ use mathlib.Core.Bool.{Bool, true, false, cond, not, _&&_}
 use mathlib.Core.List.{List, []}
 use native.Mathlib.Omega.{arith}
 use lib.Dec.{eqb, leb}
-use lib.ListN.{drop, length, take}
+use lib.ListN.{drop, length, length-drop, take}
 use borrow.Author.Needs.{needs}
 use borrow.Author.Tests.{le-leb, leb-true, lt-leb}
+use borrow.Rule.Slice.PartAt.{part-to-end}
 use borrow.Rule.Slice.PartMut.{putMid}
 use Rattle.checks.specs.Numbers.{Answer, answer, badPacket, done, noRoom}
 use Rattle.checks.specs.Output.{atStart, putAt}
@@ -16,7 +17,7 @@ use Rattle.checks.proofs.Choice.{and}
 use Rattle.checks.proofs.Output.{put-lent}
 use Rattle.usb.specs.Builder.{appendAnswer, appendOutput, fits, limit, usedAfter}
 use Rattle.usb.specs.Header.{framed, sendable}
-use Rattle.usb.proofs.Limit.{limit-least, limit-most, limit-room}
+use Rattle.usb.proofs.Limit.{limit-room}
 use Rattle.usb.proofs.builder.append.Statement.{statement}
 use Rattle.usb.proofs.builder.append.Tie as tie
 
@@ -65,13 +66,13 @@ no-room packet out used small full =
 
 -- what is written into the part behind the used bytes is written there in the output
 with-room : (packet out : List ℕ) (used : ℕ) (back : List ℕ) → length packet ≤ 251
-    → used + (length packet + 4) ≤ length out → used + (length packet + 4) ≤ 512 → back ≡ atStart (framed packet) (take (length out - used) (drop used out))
+    → used + (length packet + 4) ≤ limit (length out) → back ≡ atStart (framed packet) (take (length out - used) (drop used out))
     → Leaves packet out used (answer done []) (used + (length packet + 4)) (putMid used (length out - used) out back)
-with-room packet out used back small room most written =
-    let free = below used (length packet + 4) (limit (length out)) (limit-least (used + (length packet + 4)) (length out) room most) in
+with-room packet out used back small room written =
+    let free = below used (length packet + 4) (limit (length out)) room in
     let e = by-tests (length packet) used (length out) true true (le-leb (length packet) 251 small) free in
     let all = by-answer packet out used (answer done []) e in
-    (all .0, (all .1 .0, put-lent used (framed packet) out back (omega arith) written ∙ all .1 .1))
+    (all .0, (all .1 .0, put-lent used (framed packet) out back (omega (arith, limit-room (length out))) written ∙ all .1 .1))
 
 returns : tie.Need-returns
 returns c =
@@ -79,79 +80,73 @@ returns c =
     by-answer (a .packet .now) (a .out .now) (a .used) (answer badPacket [])
     (by-tests (length (a .packet .now)) (a .used) (length (a .out .now)) false _ (lt-leb _ _ (c .if1 .taken)) refl)
 
+limit-of-requires : tie.Need-limit-of-requires
+limit-of-requires c κs = search needs
+
 returns-2 : tie.Need-returns-2
 returns-2 c =
-    let out = c .before .before .before .before .args .out .now in
-    no-room _ out _ (omega arith) (omega (arith, limit-room (length out)))
+    let l = c .before in
+    no-room _ (l .before .before .before .before .args .out .now) _ (omega arith) (omega (arith, l .limit-of .ensures))
+
+add-if3 : tie.Need-add-if3
+add-if3 c = search needs
 
 returns-3 : tie.Need-returns-3
 returns-3 c =
-    let out = c .before .before .before .before .before .args .out .now in
-    no-room _ out _ (omega arith) (omega (arith, limit-most (length out)))
+    let l = c .before .before in
+    no-room _ (l .before .before .before .before .args .out .now) _ (omega arith) (omega (arith, l .limit-of .ensures))
 
-sub-if4 : tie.Need-sub-if4
-sub-if4 c = search needs
-
-add-if4 : tie.Need-add-if4
-add-if4 c = search needs
-
-returns-4 : tie.Need-returns-4
-returns-4 c =
-    let out = c .before .before .before .before .before .before .args .out .now in
-    no-room _ out _ (omega arith) (omega (arith, limit-room (length out)))
-
-add-if5 : tie.Need-add-if5
-add-if5 c = search needs
-
-returns-5 : tie.Need-returns-5
-returns-5 c =
-    let out = c .before .before .before .before .before .before .before .args .out .now in
-    no-room _ out _ (omega arith) (omega (arith, limit-most (length out)))
-
+-- the used bytes end within the output
 sub-put : tie.Need-sub-put
-sub-put c = search needs
+sub-put c =
+    let l = c .before .before in
+    omega (arith, l .limit-of .ensures, limit-room (length (l .before .before .before .before .args .out .now)))
 
 part-put-start : tie.Need-part-put-start
-part-put-start c = search needs
+part-put-start c = sub-put c
 
 part-put-end : tie.Need-part-put-end
 part-put-end c = search needs
 
 put-requires : tie.Need-put-requires
-put-requires c κs = search needs
+put-requires c κs =
+    let l = c .before .before .before in
+    let out = l .before .before .before .before .args .out .now in
+    let used = l .before .before .before .before .args .used in (
+      omega arith,
+      omega (arith, l .limit-of .ensures, limit-room (length out), ap length (part-to-end out used), length-drop used out),
+    )
 
-add-t7 : tie.Need-add-t7
-add-t7 c = search needs
+add-t10 : tie.Need-add-t10
+add-t10 c = search needs
 
-add-t11 : tie.Need-add-t11
-add-t11 c = search needs
+add-t8 : tie.Need-add-t8
+add-t8 c = search needs
 
 same-length : tie.Need-same-length
 same-length c = search needs
 
-returns-6 : tie.Need-returns-6
-returns-6 c =
+returns-4 : tie.Need-returns-4
+returns-4 c =
     let p = c .before .before in
-    let a = p .before .before .before .before .before .before .before .before .before .args in
-    with-room (a .packet .now) (a .out .now) (a .used) (p .put .last .1 .0) (omega arith) (omega arith) (omega arith) (p .put .ensures)
+    let l = p .before .before .before .before in
+    let a = l .before .before .before .before .args in
+    with-room (a .packet .now) (a .out .now) (a .used) (p .put .last .1 .0) (omega arith) (omega (arith, l .limit-of .ensures)) (p .put .ensures)
 
 pub append-spec : {M : Type 1} → statement M
 append-spec =
     tie.close
     (tie.spec
     returns
+    limit-of-requires
     returns-2
+    add-if3
     returns-3
-    sub-if4
-    add-if4
-    returns-4
-    add-if5
-    returns-5
     sub-put
     part-put-start
     part-put-end
     put-requires
-    add-t7
-    add-t11
+    add-t10
+    add-t8
     same-length
-    returns-6)
+    returns-4)
