@@ -2,15 +2,16 @@
 -- after the other, so each test's outcome gives the answer, and a source is answered only behind all of them. Assumes nothing.
 use Prim.Native.Nat.{ℕ, _-_, _/_, _≤_, _<_}
 use mathlib.Core.Path.{_≡_, refl}
-use mathlib.Core.Bool.{Bool, true, false, cond, not}
+use mathlib.Core.Bool.{Bool, true, false, cond, not, _&&_}
 use mathlib.Core.List.{List, [], _∷_}
 use native.Mathlib.Omega.{arith}
 use lib.Dec.{eqb, ltb}
 use lib.ListN.{length, getD}
 use borrow.Author.Tests.{eq-eqb, eqb-false, eqb-true, le-ltb, lt-ltb, ltb-false, ne-eqb}
-use Rattle.checks.specs.Numbers.{answer, done, invalidInput}
+use Rattle.checks.specs.Numbers.{Answer, answer, done, invalidInput}
 use Rattle.checks.specs.PacketErrorCode.{pecOf}
 use Rattle.checks.specs.Part.{noPart, part}
+use Rattle.checks.proofs.Choice.{by-cond}
 use Rattle.checks.proofs.Numbers.{same-number, same-value}
 use Rattle.i2c.specs.Decode.{body, bodyAnswer, butLast, decodeAnswer, lastByte, payloadPart}
 use Rattle.i2c.specs.Frame.{byteCount, commandCode}
@@ -18,6 +19,11 @@ use Rattle.i2c.specs.Frame.{byteCount, commandCode}
 -- a refusal is not a source
 not-done : (vs : List ℕ) → answer invalidInput [] ≡ answer done vs → ⊥
 not-done vs e = omega (arith, same-number e)
+
+-- what an answer of decode can be: a source, or a refusal
+pub data Decides (a : Answer) : Type 0 where
+  accepts : (source : ℕ) → a ≡ answer done (source ∷ []) → Decides a
+  refuses : a ≡ answer invalidInput [] → Decides a
 
 -- ---- header and payload
 
@@ -128,6 +134,18 @@ pub decode-taken : (pec : Bool) (input : List ℕ) (source : ℕ) → decodeAnsw
 unfolding decodeAnswer
 decode-taken true input source e = body-taken (butLast input) source (closed-taken input source e .rest)
 decode-taken false input source e = body-taken input source e
+
+-- each test of the definitions, in their order
+pub decides : (pec : Bool) (input : List ℕ) → Decides (decodeAnswer pec input)
+unfolding decodeAnswer bodyAnswer
+decides pec input =
+    let bytes = body pec input in
+    by-cond Decides (pec && eqb (length input) 0) _ _ (λ _. refuses refl) (λ _.
+    by-cond Decides (pec && not (eqb (pecOf (butLast input)) (lastByte input))) _ _ (λ _. refuses refl) (λ _.
+    by-cond Decides (ltb (length bytes) 4) _ _ (λ _. refuses refl) (λ _.
+    by-cond Decides (not (eqb (getD bytes 2 0) (byteCount (length bytes - 4)))) _ _ (λ _. refuses refl) (λ _.
+    by-cond Decides (not (eqb (getD bytes 1 0) commandCode)) _ _ (λ _. refuses refl) (λ _.
+    accepts (getD bytes 3 0 / 2) refl)))))
 
 -- ---- the payload
 

@@ -1,22 +1,22 @@
 -- What decode makes of bytes with their PEC behind them, and what it takes: an input with a source is its own PEC behind a header and a payload,
 -- since each check asks for one of these parts. Assumes nothing.
 use Prim.Native.Nat.{ℕ, _-_, _≤_}
-use mathlib.Core.Path.{_≡_, _∙_, ap, ap₂, refl, sym}
+use mathlib.Core.Path.{_≡_, _∙_, ap, ap₂, refl, subst, sym}
 use mathlib.Core.Bool.{Bool, true, false, cond}
 use mathlib.Core.List.{List, [], _∷_, _++_}
 use native.Mathlib.Omega.{arith}
 use lib.Dec.{eqb}
 use lib.ListN.{drop, getD, length, length-append, length-drop, take}
-use lib.Seq.{drop-append-le, take-at}
+use lib.Seq.{drop-append-le, length-take-le, take-at}
 use borrow.Rule.Slice.PartAt.{part-to-end}
 use Rattle.checks.specs.Numbers.{Answer, answer, done}
 use Rattle.checks.specs.PacketErrorCode.{pecOf}
-use Rattle.checks.specs.Part.{Part, bytesOf, noPart, part}
+use Rattle.checks.specs.Part.{Inside, Part, bytesOf, noPart, part}
 use Rattle.checks.proofs.Last.{front-append, front-last, last-append}
 use Rattle.i2c.specs.Decode.{body, bodyAnswer, butLast, decodeAnswer, payloadPart}
 use Rattle.i2c.specs.Frame.{closed, headed, withPec}
-use Rattle.i2c.specs.Laws.{NotTested, OnlyFrames, PecOnly, WrongPecRefused}
-use Rattle.i2c.proofs.DecodeLaws.{Headed, closed-taken, decode-plain, decode-right, decode-taken, decode-wrong, part-taken}
+use Rattle.i2c.specs.Laws.{NotTested, OnlyFrames, PayloadInside, PecOnly, WrongPecRefused}
+use Rattle.i2c.proofs.DecodeLaws.{Headed, accepts, closed-taken, decides, decode-plain, decode-right, decode-taken, decode-wrong, part-refused, part-taken, refuses}
 
 -- an input with a byte behind it is not empty
 one-more : (bytes : List ℕ) (b : ℕ) → length (bytes ++ (b ∷ [])) ≡ 0 → ⊥
@@ -37,6 +37,19 @@ pec-only bytes =
     ∙ sym (decode-plain false bytes refl)
     in
     (same, ap₂ (λ (a : Answer) (xs : List ℕ). cond (eqb (a .number) done) (part 4 (length xs - 4)) noPart) same front)
+
+-- the body is not longer than the input
+body-within : (pec : Bool) (input : List ℕ) → length (body pec input) ≤ length input
+body-within true input = omega (arith, length-take-le (length input - 1) input (omega arith))
+body-within false input = omega arith
+
+pub payload-inside : PayloadInside
+payload-inside pec input = elim (decides pec input) [
+  | accepts source e ↦
+      let long = decode-taken pec input source e .long in
+      subst (λ (p : Part). Inside p (length input)) (sym (part-taken pec input (source ∷ []) e)) (omega (arith, body-within pec input))
+  | refuses e ↦ subst (λ (p : Part). Inside p (length input)) (sym (part-refused pec input e)) (omega arith)
+]
 
 pub not-tested : NotTested
 unfolding decodeAnswer bodyAnswer payloadPart

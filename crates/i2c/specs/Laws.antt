@@ -8,7 +8,7 @@ use lib.ListN.{length, take}
 use Rattle.checks.specs.Laws.{Bytes}
 use Rattle.checks.specs.Numbers.{answer, done, invalidInput}
 use Rattle.checks.specs.PacketErrorCode.{pecOf}
-use Rattle.checks.specs.Part.{bytesOf}
+use Rattle.checks.specs.Part.{Inside, bytesOf}
 use Rattle.i2c.specs.declared.encoder.Encoded.the-variants.{Done}
 use Rattle.i2c.specs.Decode.{decodeAnswer, payloadPart}
 use Rattle.i2c.specs.Encode.{encodeAnswer, encodeOutput}
@@ -35,6 +35,10 @@ abbrev pub RoundTrip : Type 0
 RoundTrip = (own dest n : ℕ) (pec : Bool) (payload out : List ℕ)
     → encodeAnswer own dest pec (length payload) (length out) ≡ answer done (n ∷ [])
     → Gives pec (take n (encodeOutput (Done n) own dest pec payload out)) own payload
+
+-- the payload lies within the input, whatever the input is
+abbrev pub PayloadInside : Type 0
+PayloadInside = (pec : Bool) (input : List ℕ) → Inside (payloadPart pec input) (length input)
 
 -- with another byte in the place of their PEC, any bytes are refused, a well-formed frame's too
 abbrev pub WrongPecRefused : Type 0

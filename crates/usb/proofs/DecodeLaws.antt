@@ -8,7 +8,8 @@ use native.Mathlib.Omega.{arith}
 use lib.Dec.{eqb, ltb}
 use lib.ListN.{length, getD, drop, length-drop}
 use borrow.Author.Tests.{eq-eqb, eqb-true, le-ltb, lt-ltb, ltb-false, ne-eqb}
-use Rattle.checks.specs.Numbers.{answer, done, rxFailure}
+use Rattle.checks.specs.Numbers.{Answer, answer, done, rxFailure}
+use Rattle.checks.proofs.Choice.{by-cond}
 use Rattle.checks.proofs.Numbers.{matched, same-number, same-value, same-values}
 use Rattle.usb.specs.declared.decoder.Decoded.{Decoded}
 use Rattle.usb.specs.declared.decoder.Decoded.the-variants.{Packet}
@@ -68,6 +69,21 @@ module _ (input : List ℕ) where
           le-ltb (getD input 3 0) 4 h,
           le-ltb (length input) (getD input 3 0) k,
         )
+
+-- what an answer of decode can be: a packet, or a refusal
+pub data Decides (a : Answer) : Type 0 where
+  accepts : (n : ℕ) → a ≡ answer done (n ∷ []) → Decides a
+  refuses : a ≡ answer rxFailure [] → Decides a
+
+-- each test of the definition, in its order
+pub decides : (input : List ℕ) → Decides (decodeAnswer input)
+unfolding decodeAnswer
+decides input =
+    by-cond Decides (ltb (length input) 4) _ _ (λ _. refuses refl) (λ _.
+    by-cond Decides (not (eqb (getD input 0 0) firstByte && eqb (getD input 1 0) secondByte)) _ _ (λ _. refuses refl) (λ _.
+    by-cond Decides (ltb (getD input 3 0) 4) _ _ (λ _. refuses refl) (λ _.
+    by-cond Decides (ltb (length input) (getD input 3 0)) _ _ (λ _. refuses refl) (λ _.
+    accepts (getD input 3 0 - 4) refl))))
 
 -- ---- and back
 

@@ -1,6 +1,7 @@
 pub mod Answers
 pub mod Computed
 pub mod DecodeLaws
+pub mod Headers
 pub mod Held
 pub mod Limit
 pub mod Offered

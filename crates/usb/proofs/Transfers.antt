@@ -1,76 +1,26 @@
--- What `specs/Transfers.antt` states of decode and of a walk over any transfer. An answer of a walk either moves on by a header and a packet that stand there,
+-- What `specs/Transfers.antt` states of a walk over any transfer. An answer of a walk either moves on by a header and a packet that stand there,
 -- or stays. A packet takes four bytes or more, so a walk stays after one answer for each four.
 -- Assumes nothing.
 use Prim.Native.Nat.{ℕ, zero, suc, _+_, _-_, _*_, _≤_, _<_, _/_}
 use mathlib.Core.Path.{_≡_, _∙_, ap, ap₂, refl, subst, sym}
-use mathlib.Core.Bool.{not, _&&_}
 use mathlib.Core.List.{List, [], _∷_, _++_, append-assoc, append-nil}
 use mathlib.Core.Logic.{_⊎_, inl, inr}
 use native.Mathlib.Omega.{arith}
 use lib.Dec.{eqb, ltb}
-use lib.ListN.{length, getD, take, drop, length-append, length-drop, take-append-drop}
-use lib.Seq.{drop-append-add, drop-append-seam, drop-cons, drop-drop, length-take-le, take-add, take-append-seam, take-at}
+use lib.ListN.{length, take, drop, length-append, length-drop}
+use lib.Seq.{drop-append-add, drop-append-seam, drop-drop, length-take-le, take-add, take-append-seam, take-at}
 use borrow.Author.Tests.{eq-eqb, eqb-true, le-ltb, lt-ltb, ne-eqb}
-use borrow.Rule.Slice.PartAt.{part-to-end}
 use Rattle.checks.specs.Numbers.{Answer, answer, done, rxFailure}
-use Rattle.checks.specs.Part.{bytesOf, part}
+use Rattle.checks.specs.Part.{Inside, bytesOf, part}
 use Rattle.checks.proofs.Choice.{by-cond}
 use Rattle.checks.proofs.Numbers.{same-number, same-values}
-use Rattle.usb.specs.Decode.{decodeAnswer, packetAt, restAt}
-use Rattle.usb.specs.Header.{firstByte, headerWith, secondByte}
-use Rattle.usb.specs.Transfers.{DecodedAs, HeaderDecoded, OnlyHeaders, Joined, none, one-more, toEnd}
-use Rattle.usb.specs.Transfers.{EndIsWhole, EndOrSeven, JoinedWalked, PlaceBeyond, PlaceStays, WalkEnds, WalkJoined, WalkStays}
+use Rattle.usb.specs.Decode.{decodeAnswer, packetAt}
+use Rattle.usb.specs.Header.{headerWith}
+use Rattle.usb.specs.Transfers.{DecodedAs, Joined, none, one-more, toEnd}
+use Rattle.usb.specs.Transfers.{EndIsWhole, EndOrSeven, FoundInside, JoinedWalked, PlaceBeyond, PlaceStays, WalkEnds, WalkJoined, WalkStays}
 use Rattle.usb.specs.Walk.{Walk, placeAfter, placeBehind, walk, walkAnswer, wholeWalk, yieldedBy}
-use Rattle.usb.proofs.DecodeLaws.{Accepted, accepted, ended, found}
-
--- ---- decode
-
--- what decode answers of a header before its packet
-decodes : (third : ℕ) (packet rest : List ℕ)
-    → decodeAnswer (headerWith third (length packet) ++ (packet ++ rest)) ≡ answer done (length packet ∷ [])
-unfolding decodeAnswer
-decodes third packet rest =
-    let bytes = headerWith third (length packet) ++ (packet ++ rest) in
-    let joined = length-append packet rest in
-    let long : 4 ≤ length bytes = omega arith in
-    let counted : 4 ≤ length packet + 4 = omega arith in
-    let there : length packet + 4 ≤ length bytes = omega arith in
-    let size : length packet + 4 - 4 ≡ length packet = omega arith in
-    simp (le-ltb _ _ long, le-ltb _ _ counted, le-ltb _ _ there) (ap (λ (n : ℕ). answer done (n ∷ [])) size)
-
-pub header-decoded : HeaderDecoded
-header-decoded third packet rest =
-    let header = headerWith third (length packet) in
-    let bytes = header ++ (packet ++ rest) in
-    let e = same-values (decodes third packet rest) in (
-      decodes third packet rest,
-      ap (λ (v : List ℕ). bytesOf (packetAt 0 v) bytes) e ∙ take-append-seam packet rest,
-      ap (λ (v : List ℕ). bytesOf (restAt (length bytes) v) bytes) e
-          ∙ part-to-end bytes (4 + length packet)
-          ∙ drop-append-add header (packet ++ rest) (length packet)
-          ∙ drop-append-seam packet rest,
-    )
-
--- an input that is accepted is a header, the packet and what is behind it
-header-first : (bytes : List ℕ) (n : ℕ) → Accepted bytes n → DecodedAs bytes (take n (drop 4 bytes)) (drop (4 + n) bytes)
-header-first bytes n a =
-    let packet = take n (drop 4 bytes) in
-    let size : length packet ≡ n = length-take-le n (drop 4 bytes) (omega (arith, length-drop 4 bytes)) in
-    record {
-      third = getD bytes 2 0;
-      parts =
-          drop-cons bytes 0 0 (omega arith) ∙ ap₂ _∷_ (a .first)
-          (drop-cons bytes 1 0 (omega arith) ∙ ap₂ _∷_ (a .second)
-          (drop-cons bytes 2 0 (omega arith) ∙ ap (λ (rest : List ℕ). getD bytes 2 0 ∷ rest)
-          (drop-cons bytes 3 0 (omega arith) ∙ ap₂ _∷_ (omega arith)
-          (sym (take-append-drop n (drop 4 bytes)) ∙ ap (λ (rest : List ℕ). packet ++ rest) (drop-drop n 4 bytes)))));
-    }
-
-pub only-headers : OnlyHeaders
-only-headers bytes n e =
-    subst (λ (v : List ℕ). DecodedAs bytes (bytesOf (packetAt 0 v) bytes) (bytesOf (restAt (length bytes) v) bytes)) (sym (same-values e))
-    (subst (λ (rest : List ℕ). DecodedAs bytes (take n (drop 4 bytes)) rest) (sym (part-to-end bytes (4 + n)))
-    (header-first bytes n (accepted bytes n e)))
+use Rattle.usb.proofs.DecodeLaws.{accepted, accepts, decides, ended, found, refuses}
+use Rattle.usb.proofs.Headers.{decodes, header-first}
 
 -- ---- one answer of a walk
 
@@ -84,23 +34,28 @@ data Stands (transfer : List ℕ) (place : ℕ) (a : Answer) : Type 0 where
 refusal : (t : List ℕ) (p : ℕ) → Stands t p (answer rxFailure [])
 refusal t p = no-packet refl (λ e. absurd (omega (arith, same-number e))) (inr refl)
 
--- each test of the definition, in its order
+-- beyond the transfer, at its end, and before it by what decode says
 stands : (transfer : List ℕ) (place : ℕ) → Stands transfer place (walkAnswer transfer place)
-unfolding walkAnswer decodeAnswer
+unfolding walkAnswer
 stands t p =
-    let s = drop p t in
     by-cond (Stands t p) (ltb (length t) p) _ _ (λ _. refusal t p) (λ _.
     by-cond (Stands t p) (eqb p (length t)) _ _ (λ h. no-packet refl (λ _. eqb-true p (length t) h) (inl refl)) (λ _.
-    by-cond (Stands t p) (ltb (length s) 4) _ _ (λ _. refusal t p) (λ _.
-    by-cond (Stands t p) (not (eqb (getD s 0 0) firstByte && eqb (getD s 1 0) secondByte)) _ _ (λ _. refusal t p) (λ _.
-    by-cond (Stands t p) (ltb (getD s 3 0) 4) _ _ (λ _. refusal t p) (λ _.
-    by-cond (Stands t p) (ltb (length s) (getD s 3 0)) _ _ (λ _. refusal t p) (λ _.
-    some-packet (getD s 3 0 - 4) refl))))))
+    elim (decides (drop p t)) [
+      | accepts n e ↦ some-packet n e
+      | refuses e ↦ subst (Stands t p) (sym e) (refusal t p)
+    ]))
 
 pub end-or-seven : EndOrSeven
 end-or-seven t p h = elim (stands t p) [
   | some-packet n e ↦ absurd (omega (arith, ap length (sym h ∙ same-values e)))
   | no-packet e f g ↦ g
+]
+
+pub found-inside : FoundInside
+found-inside t p = elim (stands t p) [
+  | some-packet n e ↦
+      subst (λ (v : List ℕ). Inside (packetAt p v) (length t)) (sym (same-values e)) (omega (arith, found t p n e .inside))
+  | no-packet e f g ↦ subst (λ (v : List ℕ). Inside (packetAt p v) (length t)) (sym e) (omega arith)
 ]
 
 pub place-stays : PlaceStays

@@ -1,5 +1,5 @@
--- What is proved of the walker over whole transfers, and of walker and builder together. The proofs: `proofs/Transfers.antt` and `proofs/Offered.antt`.
--- Assumes nothing.
+-- What is proved of decode (`proofs/Headers.antt`), of the walker over whole transfers (`proofs/Transfers.antt`), and of walker and builder together
+-- (`proofs/Offered.antt`). Assumes nothing.
 use Prim.Native.Nat.{ℕ, _+_, _≤_, _<_, _/_}
 use mathlib.Core.Path.{_≡_}
 use mathlib.Core.Bool.{cond}
@@ -7,11 +7,11 @@ use mathlib.Core.Logic.{_⊎_}
 use mathlib.Core.List.{List, [], _∷_, _++_}
 use lib.ListN.{length, take}
 use Rattle.checks.specs.Numbers.{answer, done, rxFailure}
-use Rattle.checks.specs.Part.{bytesOf}
+use Rattle.checks.specs.Part.{Inside, bytesOf}
 use Rattle.usb.specs.Builder.{appendOutput, takes, usedAfter}
 use Rattle.usb.specs.Decode.{decodeAnswer, packetPart, remainderPart}
 use Rattle.usb.specs.Header.{framed, headerWith}
-use Rattle.usb.specs.Walk.{Walk, placeAfter, walk, walkAnswer, wholeWalk}
+use Rattle.usb.specs.Walk.{Walk, foundPart, placeAfter, walk, walkAnswer, wholeWalk}
 
 -- ---- decode
 
@@ -33,7 +33,15 @@ abbrev pub OnlyHeaders : Type 0
 OnlyHeaders = (bytes : List ℕ) (n : ℕ) → decodeAnswer bytes ≡ answer done (n ∷ [])
     → DecodedAs bytes (bytesOf (packetPart bytes) bytes) (bytesOf (remainderPart bytes) bytes)
 
+-- packet and remainder lie within the input, whatever the input is
+abbrev pub PartsInside : Type 0
+PartsInside = (input : List ℕ) → Inside (packetPart input) (length input) × Inside (remainderPart input) (length input)
+
 -- ---- a walk over any transfer
+
+-- what is found at a place lies within the transfer
+abbrev pub FoundInside : Type 0
+FoundInside = (transfer : List ℕ) (place : ℕ) → Inside (foundPart transfer place) (length transfer)
 
 -- packets with their headers, joined, whatever each third byte is
 pub data Joined : List (List ℕ) → List ℕ → Type 0 where
