@@ -1,3 +1,4 @@
+pub mod Answers
 pub mod Computed
 pub mod EncodeLaws
 pub mod DecodeLaws

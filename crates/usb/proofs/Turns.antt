@@ -11,7 +11,7 @@ use Rattle.usb.specs.declared.walker.Walked.{Walked}
 use Rattle.usb.specs.declared.walker.Walked.the-variants.{Packet, End, RxFailure}
 use Rattle.usb.specs.declared.walker.Walker.{Walker}
 use Rattle.usb.specs.declared.walker.Yielded.{Yielded}
-use Rattle.usb.specs.Walk.{CallsWalk, Yields, foundPart, handed, handedAll, walk, walkedAnswer, yielded, yieldedBy}
+use Rattle.usb.specs.Walk.{CallsWalk, Yields, foundPart, handed, handedAll, lastOf, walk, walkedAnswer, walkerAt, yielded, yieldedBy}
 
 -- a packet comes with an answer that has a value
 by-values : (r : Walked) (transfer : List ℕ) (p : Part) → handed r (bytesOf p transfer) ≡ yieldedBy transfer p (walkedAnswer r .values)
@@ -28,10 +28,13 @@ one-call w y h =
     ∙ by-values (y .answer) transfer p
     ∙ ap (λ (a : Answer). yieldedBy transfer p (a .values)) (h .0)
 
+-- and then the others, from the walker that it handed back
 pub calls-walk : CallsWalk
-unfolding walk handedAll
-calls-walk w [] h = refl
+unfolding walk handedAll lastOf
+calls-walk w [] h = (refl, refl)
 calls-walk w (y ∷ ys) h =
-    ap₂ _++_ (one-call w y (h .0))
-    (calls-walk (y .walker) ys (h .1)
-    ∙ ap (λ (v : Walker). walk (length ys) (now (v .transfer)) (v .place) .packets) (h .0 .2))
+    let rest = calls-walk (y .walker) ys (h .1) in (
+      ap₂ _++_ (one-call w y (h .0))
+          (rest .0 ∙ ap (λ (v : Walker). walk (length ys) (now (v .transfer)) (v .place) .packets) (h .0 .2)),
+      rest .1 ∙ ap (λ (v : Walker). walkerAt (v .transfer) (walk (length ys) (now (v .transfer)) (v .place) .place)) (h .0 .2),
+    )

@@ -1,14 +1,14 @@
--- What is computed, step by step, from the definitions: transfers of no, one and two packets, inputs that are nearly headers, and packets appended. An error in a
--- definition breaks these first. The proofs: `proofs/Computed.antt`. Assumes nothing.
-use mathlib.Core.Path.{_≡_}
-use mathlib.Core.List.{List, [], _∷_}
+-- What is computed, step by step, from the definitions: transfers of no and of two packets and one that is cut off, inputs that are nearly headers, and
+-- packets appended. An error in a definition breaks these first. The proofs: `proofs/Computed.antt`. Assumes nothing.
 use Prim.Native.Nat.{ℕ}
+use mathlib.Core.Path.{_≡_}
+use mathlib.Core.List.{List, [], _∷_, _++_}
 use lib.ListN.{replicate}
-use Rattle.checks.specs.Numbers.{Answer, answer, badPacket, done, noRoom, rxFailure}
+use Rattle.checks.specs.Numbers.{answer, badPacket, done, noRoom, rxFailure}
 use Rattle.usb.specs.Builder.{appendAnswer, appendOutput, usedAfter}
 use Rattle.usb.specs.Decode.{decodeAnswer}
 use Rattle.usb.specs.Header.{headerAnswer, headerOf}
-use Rattle.usb.specs.Walk.{Walk, walkAnswer, wholeWalk}
+use Rattle.usb.specs.Walk.{stopped, walkAnswer, wholeWalk}
 
 -- a transfer of two packets: one of two bytes, whose header has a third byte of ff, and one of none
 abbrev pub two : List ℕ
@@ -16,16 +16,13 @@ two = 0x1a ∷ 0xb4 ∷ 0xff ∷ 0x06 ∷ 0x01 ∷ 0x02 ∷ 0x1a ∷ 0xb4 ∷ 0x
 
 -- the same with one byte of a third header behind it
 abbrev pub cut : List ℕ
-cut = 0x1a ∷ 0xb4 ∷ 0xff ∷ 0x06 ∷ 0x01 ∷ 0x02 ∷ 0x1a ∷ 0xb4 ∷ 0x00 ∷ 0x04 ∷ 0x1a ∷ []
-
-abbrev pub walkOf : List (List ℕ) → ℕ → Answer → Walk
-walkOf ps n a = record { packets = ps; place = n; last = a }
+cut = two ++ (0x1a ∷ [])
 
 -- none, two, and two before a header that is cut off
 abbrev pub TransfersWalked : Type 0
-TransfersWalked = (wholeWalk [] ≡ walkOf [] 0 (answer done []))
-    × (wholeWalk two ≡ walkOf ((0x01 ∷ 0x02 ∷ []) ∷ [] ∷ []) 10 (answer done []))
-    × (wholeWalk cut ≡ walkOf ((0x01 ∷ 0x02 ∷ []) ∷ [] ∷ []) 10 (answer rxFailure []))
+TransfersWalked = (wholeWalk [] ≡ stopped [] 0 (answer done []))
+    × (wholeWalk two ≡ stopped ((0x01 ∷ 0x02 ∷ []) ∷ [] ∷ []) 10 (answer done []))
+    × (wholeWalk cut ≡ stopped ((0x01 ∷ 0x02 ∷ []) ∷ [] ∷ []) 10 (answer rxFailure []))
     × (walkAnswer two 11 ≡ answer rxFailure [])
 
 -- each check by itself, in document 01's order

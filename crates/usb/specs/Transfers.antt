@@ -11,7 +11,7 @@ use Rattle.checks.specs.Part.{Inside, bytesOf}
 use Rattle.usb.specs.Builder.{appendOutput, takes, usedAfter}
 use Rattle.usb.specs.Decode.{decodeAnswer, packetPart, remainderPart}
 use Rattle.usb.specs.Header.{framed, headerWith}
-use Rattle.usb.specs.Walk.{Walk, foundPart, placeAfter, walk, walkAnswer, wholeWalk}
+use Rattle.usb.specs.Walk.{Walk, foundPart, placeAfter, stopped, walk, walkAnswer, wholeWalk}
 
 -- ---- decode
 
@@ -24,11 +24,12 @@ Gives bytes packet remainder = (decodeAnswer bytes ≡ answer done (length packe
 abbrev pub HeaderDecoded : Type 0
 HeaderDecoded = (third : ℕ) (packet rest : List ℕ) → Gives (headerWith third (length packet) ++ (packet ++ rest)) packet rest
 
--- nothing else is accepted: what decode takes is a header with some third byte, the packet and the remainder
+-- a header with some third byte, a packet and a remainder
 pub record DecodedAs (bytes packet remainder : List ℕ) : Type 0 where
   pub third : ℕ
   pub parts : bytes ≡ headerWith third (length packet) ++ (packet ++ remainder)
 
+-- nothing else is accepted
 abbrev pub OnlyHeaders : Type 0
 OnlyHeaders = (bytes : List ℕ) (n : ℕ) → decodeAnswer bytes ≡ answer done (n ∷ [])
     → DecodedAs bytes (bytesOf (packetPart bytes) bytes) (bytesOf (remainderPart bytes) bytes)
@@ -51,7 +52,7 @@ pub data Joined : List (List ℕ) → List ℕ → Type 0 where
 
 -- a walk that yields these packets and then says end, at this place
 abbrev pub toEnd : List (List ℕ) → ℕ → Walk
-toEnd ps place = record { packets = ps; place = place; last = answer done [] }
+toEnd ps place = stopped ps place (answer done [])
 
 -- it ends: after at most one packet for each four bytes an answer yields nothing
 abbrev pub WalkEnds : Type 0
@@ -66,10 +67,11 @@ abbrev pub EndOrSeven : Type 0
 EndOrSeven = (transfer : List ℕ) (place : ℕ) → walkAnswer transfer place .values ≡ []
     → (walkAnswer transfer place ≡ answer done []) ⊎ (walkAnswer transfer place ≡ answer rxFailure [])
 
--- and the place stays; so it does beyond the transfer, where the answer is 7
+-- and the place stays
 abbrev pub PlaceStays : Type 0
 PlaceStays = (transfer : List ℕ) (place : ℕ) → walkAnswer transfer place .values ≡ [] → placeAfter transfer place ≡ place
 
+-- so it does beyond the transfer, where the answer is 7
 abbrev pub PlaceBeyond : Type 0
 PlaceBeyond = (transfer : List ℕ) (place : ℕ) → length transfer < place
     → (walkAnswer transfer place ≡ answer rxFailure []) × (placeAfter transfer place ≡ place)
@@ -89,15 +91,17 @@ JoinedWalked = (ps : List (List ℕ)) (transfer : List ℕ) → Joined ps transf
 
 -- ---- a walk over what the builder made
 
--- packets offered to the builder in turn: the output, the used count, and the packets that it took
+-- after packets were offered to the builder: the output, the used count, and the packets that it took
 pub record Building : Type 0 where
   pub out : List ℕ
   pub used : ℕ
   pub taken : List (List ℕ)
 
+-- the packet where it is taken, else none
 abbrev pub takenOf : List ℕ → ℕ → ℕ → List (List ℕ)
 takenOf packet used room = cond (takes (length packet) used room) (packet ∷ []) []
 
+-- each in turn, from this output and this count on
 unfoldable pub offered : List ℕ → ℕ → List (List ℕ) → Building
 offered out used [] = record { out = out; used = used; taken = [] }
 offered out used (p ∷ ps) =

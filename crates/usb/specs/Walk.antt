@@ -37,24 +37,29 @@ abbrev pub placeBehind : ℕ → List ℕ → ℕ
 placeBehind place [] = place
 placeBehind place (n ∷ ns) = place + (4 + n)
 
+-- the place after an answer
 abbrev pub placeAfter : List ℕ → ℕ → ℕ
 placeAfter transfer place = placeBehind place (walkAnswer transfer place .values)
 
--- a walker at the start of a transfer
-abbrev pub startOf : RefT (List ℕ) → Walker
-startOf transfer = record { transfer = transfer; place = 0 }
+-- a walker over a transfer at a place
+abbrev pub walkerAt : RefT (List ℕ) → ℕ → Walker
+walkerAt transfer place = record { transfer = transfer; place = place }
+
+-- what `new` hands back: a walker at the start
+abbrev pub Starts : RefT (List ℕ) → Walker → Type 0
+Starts transfer w = w ≡ walkerAt transfer 0
 
 -- what a call of `next` hands back: the answer, the packet, and the walker behind it
 abbrev pub Yields : Walker → Yielded → Type 0
 Yields w y = (walkedAnswer (y .answer) ≡ walkAnswer (now (w .transfer)) (w .place))
     × IsPart (y .packet) (w .transfer) (foundPart (now (w .transfer)) (w .place))
-    × (y .walker ≡ record { transfer = w .transfer; place = placeAfter (now (w .transfer)) (w .place) })
+    × (y .walker ≡ walkerAt (w .transfer) (placeAfter (now (w .transfer)) (w .place)))
 
 -- ---- the two leave no choice. The proofs: `proofs/OneWalk.antt`
 
 -- `new` hands back one walker
 abbrev pub OneStart : Type 0
-OneStart = (transfer : RefT (List ℕ)) (x y : Walker) → x ≡ startOf transfer → y ≡ startOf transfer → x ≡ y
+OneStart = (transfer : RefT (List ℕ)) (x y : Walker) → Starts transfer x → Starts transfer y → x ≡ y
 
 -- any two results of `next` have the same answer, packets of the same bytes at the same place (docs/UNFIXED.md says what is left), and the same walker
 abbrev pub OneYield : Type 0
@@ -69,20 +74,25 @@ pub record Walk : Type 0 where
   pub place : ℕ
   pub last : Answer
 
--- the packet that a place yields, or none
+-- a walk that has yielded these packets and stopped at this place, with this answer
+abbrev pub stopped : List (List ℕ) → ℕ → Answer → Walk
+stopped packets place last = record { packets = packets; place = place; last = last }
+
+-- the part's bytes where the values of an answer have a length, else none
 abbrev pub yieldedBy : List ℕ → Part → List ℕ → List (List ℕ)
 yieldedBy transfer p [] = []
 yieldedBy transfer p (n ∷ ns) = bytesOf p transfer ∷ []
 
+-- the packet that a place yields, or none
 abbrev pub yielded : List ℕ → ℕ → List (List ℕ)
 yielded transfer place = yieldedBy transfer (foundPart transfer place) (walkAnswer transfer place .values)
 
 -- k answers from a place on, and then one more, which is the last
 unfoldable pub walk : ℕ → List ℕ → ℕ → Walk
-walk zero transfer place = record { packets = []; place = place; last = walkAnswer transfer place }
+walk zero transfer place = stopped [] place (walkAnswer transfer place)
 walk (suc k) transfer place =
     let rest = walk k transfer (placeAfter transfer place) in
-    record { packets = yielded transfer place ++ rest .packets; place = rest .place; last = rest .last }
+    stopped (yielded transfer place ++ rest .packets) (rest .place) (rest .last)
 
 -- one for each four bytes
 abbrev pub wholeWalk : List ℕ → Walk
@@ -106,7 +116,13 @@ unfoldable pub handedAll : List Yielded → List (List ℕ)
 handedAll [] = []
 handedAll (y ∷ ys) = handed (y .answer) (now (y .packet)) ++ handedAll ys
 
--- the packets that calls in turn yield are those of a walk of as many answers
+-- the walker that the last of them handed back
+unfoldable pub lastOf : Walker → List Yielded → Walker
+lastOf w [] = w
+lastOf w (y ∷ ys) = lastOf (y .walker) ys
+
+-- calls in turn are a walk of as many answers: they yield its packets, and the next one is made where it stopped
 abbrev pub CallsWalk : Type 0
 CallsWalk = (w : Walker) (ys : List Yielded) → InTurn w ys
-    → handedAll ys ≡ walk (length ys) (now (w .transfer)) (w .place) .packets
+    → (handedAll ys ≡ walk (length ys) (now (w .transfer)) (w .place) .packets)
+    × (lastOf w ys ≡ walkerAt (w .transfer) (walk (length ys) (now (w .transfer)) (w .place) .place))

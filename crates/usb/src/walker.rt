@@ -1,7 +1,7 @@
 // The walker over a transfer: the covered functions on a slice and a place, for whoever loops, and the struct that holds both.
 ghost use mathlib.Core.Path.{_≡_};
 ghost use Rattle.checks.specs.Part.{IsPart};
-ghost use Rattle.usb.specs.Walk.{Yields, foundPart, placeAfter, startOf, walkAnswer, walkedAnswer};
+ghost use Rattle.usb.specs.Walk.{Starts, Yields, foundPart, placeAfter, walkAnswer, walkedAnswer};
 use crate::decoder::Decoded;
 use crate::decoder::decode;
 
@@ -70,7 +70,7 @@ pub struct Yielded<'a> {
 impl<'a> Walker<'a> {
     // A walker at the start of a transfer.
     pub fn new(transfer: &'a [u8]) -> Walker<'a>
-        ensures { λ r. ⌜ r ≡ startOf (transfer .entry) ⌝ }
+        ensures { λ r. ⌜ Starts (transfer .entry) r ⌝ }
     {
         Walker { transfer, place: 0 }
     }
