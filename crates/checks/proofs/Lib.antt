@@ -9,4 +9,5 @@ pub mod OneResult
 pub mod Bytes
 pub mod Choice
 pub mod Output
+pub mod Each
 pub mod Last

@@ -106,7 +106,7 @@ count-is-steps input allowance room s c =
 
 -- a call takes the stream's first bytes
 module _ (c : Call) (s : Receiver) (stream : List ℕ) (fits : Consistent s) where
-  taken : ℕ
+  abbrev taken : ℕ
   taken = called c s stream .taken
 
   here : Steps (take (c .offered) stream) (c .allowance) s (called c s stream)
@@ -116,26 +116,22 @@ module _ (c : Call) (s : Receiver) (stream : List ℕ) (fits : Consistent s) whe
   least = min-le-left (c .offered) (length stream)
 
   same-bytes : take taken (take (c .offered) stream) ≡ take taken stream
-  unfolding taken
   same-bytes = take-take taken (c .offered) stream (omega (arith, here .within, length-take (c .offered) stream, least))
 
   call-state : called c s stream .state ≡ runOf s (take taken stream)
-  unfolding taken
   call-state = here .state ∙ ap (runOf s) same-bytes
 
   call-outs : (i : ℕ) → outsOf i s (take taken stream) ≡ handed (called c s stream .reason) (called c s stream .state) (i + taken - 1) []
-  unfolding taken
   call-outs i = ap (outsOf i s) (sym same-bytes) ∙ here .outs i
 
-  within : taken ≤ length stream
-  unfolding taken
+  pub within : taken ≤ length stream
   within = omega (arith, here .within, length-take (c .offered) stream, min-le-right (c .offered) (length stream))
 
-  kept : Bytes stream → Consistent (called c s stream .state)
+  pub kept : Bytes stream → Consistent (called c s stream .state)
   kept h = subst Consistent (sym call-state) (run-keeps s (take taken stream) fits (bytes-take taken stream h))
 
   -- and one pass goes on behind them
-  goes-on : (i : ℕ) → outsOf i s stream
+  pub goes-on : (i : ℕ) → outsOf i s stream
       ≡ handed (called c s stream .reason) (called c s stream .state) (i + taken - 1) [] ++ outsOf (i + taken) (called c s stream .state) (drop taken stream)
   goes-on i =
       ap (outsOf i s) (sym (take-append-drop taken stream))
@@ -144,13 +140,13 @@ module _ (c : Call) (s : Receiver) (stream : List ℕ) (fits : Consistent s) whe
       ∙ ap (λ (u : Receiver). outsOf i s (take taken stream) ++ outsOf (i + taken) u (drop taken stream)) (sym call-state)
       ∙ ap (λ (outs : List (ℕ × List ℕ)). outs ++ outsOf (i + taken) (called c s stream .state) (drop taken stream)) (call-outs i)
 
-  state-goes-on : runOf s stream ≡ runOf (called c s stream .state) (drop taken stream)
+  pub state-goes-on : runOf s stream ≡ runOf (called c s stream .state) (drop taken stream)
   state-goes-on =
       ap (runOf s) (sym (take-append-drop taken stream)) ∙ run-append s (take taken stream) (drop taken stream)
       ∙ ap (λ (u : Receiver). runOf u (drop taken stream)) (sym call-state)
 
 pub any-cutting : AnyCutting
-unfolding fedBy taken
+unfolding fedBy
 any-cutting [] i s stream fits h = record { packets = refl; state = refl }
 any-cutting (c ∷ cs) i s stream fits h =
     let t = called c s stream in
@@ -178,7 +174,7 @@ step-least (Packet k) s n t h = le-refl n
 step-least Inconsistent s n t h = le-refl n
 
 -- a willing call takes a byte where there is one
-takes-one : (b : ℕ) (bs : List ℕ) (s : Receiver) (offered allowance room : ℕ) → Consistent s → 1 ≤ offered → 1 ≤ allowance → 255 ≤ room
+pub takes-one : (b : ℕ) (bs : List ℕ) (s : Receiver) (offered allowance room : ℕ) → Consistent s → 1 ≤ offered → 1 ≤ allowance → 255 ≤ room
     → 1 ≤ takenOf (take offered (b ∷ bs)) allowance room s .taken
 unfolding takenOf takeFrom
 takes-one b bs s zero allowance room fits h k r = absurd (omega arith)

@@ -1,88 +1,60 @@
-// Check values: a list of bytes, its frame check of two bytes, the high one first, and its PEC.
-ghost use Prim.Native.Nat.{_<_};
-use crate::report;
+// The calls `check` and `pec`: a list of bytes, its frame check and its PEC, or its PEC alone.
+ghost use Rattle.io.specs.Counts.{Counts};
+use crate::render;
 use crate::text;
 
 // The longest list that a vector may have.
-const LONGEST: usize = 512;
+const LONGEST: usize = 600;
 
-// What a field holds: a number, or no number of the width asked.
-enum Stored {
-    Number(u64),
-    Nothing,
-}
-
-// Replays one vector, and answers whether all agrees.
-pub(crate) fn replay(path: &[u8], number: usize, line: &[u8]) -> bool {
-    let first = text::next(line, 0, b' ');
-    if first == line.len() {
-        return report::malformed(path, number);
-    }
-    let frame_at = first + 1;
-    let second = text::next(line, frame_at, b' ');
-    if second == line.len() {
-        return report::malformed(path, number);
-    }
-    let pec_at = second + 1;
-    let Stored::Number(frame) = number_in(&line[frame_at..second], 2) else {
-        return report::malformed(path, number);
-    };
-    let Stored::Number(pec) = number_in(&line[pec_at..], 1) else {
-        return report::malformed(path, number);
-    };
-    let mut bytes = [0u8; LONGEST];
-    let decoded = text::decode(&line[..first], &mut bytes);
+// `check BYTES`, in one call (way 0) or in two, which part the bytes in the middle: FRAMECHECK PEC.
+pub(crate) fn check(line: &[u8], way: usize, out: &mut [u8]) -> usize {
+    let mut room = [0u8; LONGEST];
+    let decoded = text::decode(text::field(line, 1), &mut room);
     if !decoded.ok {
-        return report::malformed(path, number);
+        return 0;
     }
     let count = decoded.count;
-    compare(path, number, &bytes[..count], frame, pec)
+    if way == 0 {
+        return whole(&room[..count], out);
+    }
+    parted(&room[..count], out)
 }
 
-// The number that a field of so many bytes, one or two, holds.
-fn number_in(field: &[u8], width: usize) -> Stored {
-    let mut bytes = [0u8; 2];
-    let decoded = text::decode(field, &mut bytes);
+// `pec BYTES`, for documents that print no frame check: PEC.
+pub(crate) fn pec(line: &[u8], out: &mut [u8]) -> usize {
+    let mut room = [0u8; LONGEST];
+    let decoded = text::decode(text::field(line, 1), &mut room);
     if !decoded.ok {
-        return Stored::Nothing;
+        return 0;
     }
-    if decoded.count != width {
-        return Stored::Nothing;
-    }
-    if width == 1 {
-        return Stored::Number(wide(bytes[0]));
-    }
-    Stored::Number(wide(bytes[0]) * 256 + wide(bytes[1]))
+    let count = decoded.count;
+    render::pair(out, 0, checks::pec(&room[..count]))
 }
 
-// A byte as a wider number.
-fn wide(b: u8) -> u64
-    ensures { λ r. ⌜ r < 256 ⌝ }
+// Both values in one call each.
+fn whole(bytes: &[u8], out: &mut [u8]) -> usize {
+    values(checks::frame_check(bytes), checks::pec(bytes), out)
+}
+
+// Both values in two calls each.
+fn parted(bytes: &[u8], out: &mut [u8]) -> usize {
+    let half = half(bytes);
+    let frame = checks::frame_check_from(checks::frame_check(&bytes[..half]), &bytes[half..]);
+    let pec = checks::pec_from(checks::pec(&bytes[..half]), &bytes[half..]);
+    values(frame, pec, out)
+}
+
+// Both values as text, the frame check's high byte first.
+fn values(frame: u16, pec: u8, out: &mut [u8]) -> usize {
+    let low_at = render::pair(out, 0, (frame / 256) as u8);
+    let end = render::pair(out, low_at, (frame % 256) as u8);
+    let pec_at = render::space(out, end);
+    render::pair(out, pec_at, pec)
+}
+
+// Half of the bytes, rounded down: where a list is cut in two.
+fn half(bytes: &[u8]) -> usize
+    ensures { λ r. ⌜ Counts r (now (bytes .entry)) ⌝ }
 {
-    b as u64
-}
-
-// Compares each check value of the bytes, in one call and in two that part them in the middle, with the stored ones.
-fn compare(path: &[u8], number: usize, bytes: &[u8], frame: u64, pec: u64) -> bool {
-    let half = text::half(bytes);
-    let frame_parts = checks::frame_check_from(checks::frame_check(&bytes[..half]), &bytes[half..]);
-    let pec_parts = checks::pec_from(checks::pec(&bytes[..half]), &bytes[half..]);
-    report::agree(
-        path,
-        number,
-        b"frame check",
-        checks::frame_check(bytes) as u64,
-        frame,
-        4,
-    )
-        & report::agree(
-            path,
-            number,
-            b"frame check in two parts",
-            frame_parts as u64,
-            frame,
-            4,
-        )
-        & report::agree(path, number, b"PEC", checks::pec(bytes) as u64, pec, 2)
-        & report::agree(path, number, b"PEC in two parts", pec_parts as u64, pec, 2)
+    bytes.len() / 2
 }

@@ -1,23 +1,40 @@
-// Replays the stored lists in data/ and compares. A disagreement is printed with the vector's number and both values, and the gate, which
+// Replays the stored lists in data/ and compares. A disagreement is printed with the vector's number and both texts, and the gate, which
 // holds what this program writes, then fails. Nothing here is part of the port: it is a test of it.
+mod calls;
 mod check_values;
+mod i2c_calls;
 mod lists;
+mod packets;
+mod render;
 mod report;
+mod rooms;
+mod serial_calls;
+mod states;
+mod streams;
 mod text;
+mod usb_calls;
+mod walks;
 
 // Room for the longest list.
-const ROOM: usize = 262144;
+const ROOM: usize = 524288;
 
 fn main() {
-    replay(b"check-values.txt");
+    let mut room = [0u8; ROOM];
+    replay(b"check-values.txt", &mut room);
+    replay(b"serial-frames.txt", &mut room);
+    replay(b"serial-streams.txt", &mut room);
+    replay(b"serial-steps.txt", &mut room);
+    replay(b"serial-takes.txt", &mut room);
+    replay(b"i2c-frames.txt", &mut room);
+    replay(b"usb-transfers.txt", &mut room);
+    replay(b"documents.txt", &mut room);
     // This list is wrong on purpose, so that the gate sees that a disagreement is found, and how it is printed.
-    replay(b"check-values-wrong.txt");
+    replay(b"wrong.txt", &mut room);
 }
 
 // Replays the list that the path names. Of one that has nothing to replay, or is too long for the room, only standard error hears.
-fn replay(path: &[u8]) {
-    let mut room = [0u8; ROOM];
-    let n = text::load(path, &mut room);
+fn replay(path: &[u8], room: &mut [u8]) {
+    let n = text::load(path, room);
     if 0 < n {
         lists::replay(path, &room[..n]);
     }

@@ -1,5 +1,5 @@
-// The text of a stored list. A line is a vector: fields in lower-case hex, a space between two of them, `-` for a field of no bytes. An empty
-// line, and one that begins with '#', is no vector.
+// The text of a stored list. A line is a vector: fields, one space between two of them. Bytes are lower-case hex, `-` for none, and numbers are
+// decimal. An empty line, and one that begins with '#', is no vector.
 ghost use mathlib.Core.Path.{_≡_};
 ghost use Prim.Native.Nat.{_≤_};
 ghost use lib.ListN.{length};
@@ -53,6 +53,43 @@ pub(crate) fn next(text: &[u8], at: usize, byte: u8) -> usize
     bytes::scan::find(text, at, text.len(), byte)
 }
 
+// The line from its k-th field on, counted from 0; nothing where there are fewer fields.
+pub(crate) fn rest(line: &[u8], k: usize) -> &[u8] {
+    let mut start = 0;
+    let mut left = k;
+    while 0 < left {
+        let end = next(line, start, b' ');
+        if end == line.len() {
+            return &line[..0];
+        }
+        start = end + 1;
+        left -= 1;
+    }
+    &line[start..]
+}
+
+// The k-th field, counted from 0, as a part of the line; nothing where there are fewer fields.
+pub(crate) fn field(line: &[u8], k: usize) -> &[u8] {
+    let from = rest(line, k);
+    let end = next(from, 0, b' ');
+    &from[..end]
+}
+
+// Whether both texts have the same bytes.
+pub(crate) fn same(a: &[u8], b: &[u8]) -> bool {
+    if a.len() != b.len() {
+        return false;
+    }
+    let mut i = 0;
+    while i < a.len() {
+        if a[i] != b[i] {
+            return false;
+        }
+        i += 1;
+    }
+    true
+}
+
 // The bytes of a field: how many there are, or that the field is none.
 pub(crate) struct Decoded {
     pub ok: bool,
@@ -93,8 +130,8 @@ pub(crate) fn decode(field: &[u8], out: &mut [u8]) -> Decoded
     answer(true, count)
 }
 
-// What `decode` answers, as a value of its own, so that each return is one line.
-fn answer(ok: bool, count: usize) -> Decoded
+// What a field gives, as a value of its own, so that each return is one line.
+pub(crate) fn answer(ok: bool, count: usize) -> Decoded
     ensures { λ r. ⌜ r .count ≡ count ⌝ }
 {
     Decoded { ok, count }
@@ -119,9 +156,75 @@ fn digit(c: u8) -> u8
     }
 }
 
-// Half of the bytes, rounded down: where a list is cut in two.
-pub(crate) fn half(bytes: &[u8]) -> usize
-    ensures { λ r. ⌜ Counts r (now (bytes .entry)) ⌝ }
+// The byte of a field, or that the field is none.
+pub(crate) struct OneByte {
+    pub ok: bool,
+    pub value: u8,
+}
+
+// The byte that a field of two digits holds.
+pub(crate) fn single(field: &[u8]) -> OneByte {
+    if field.len() != 2 {
+        return OneByte {
+            ok: false,
+            value: 0,
+        };
+    }
+    let mut room = [0u8; 1];
+    let decoded = decode(field, &mut room);
+    OneByte {
+        ok: decoded.ok,
+        value: room[0],
+    }
+}
+
+// The number of a field, or that the field is none.
+pub(crate) struct Numeral {
+    pub ok: bool,
+    pub value: usize,
+}
+
+// The number that a field of one to five decimal digits holds; a zero may stand first only alone.
+pub(crate) fn number(field: &[u8]) -> Numeral
+    ensures { λ r. ⌜ r .value ≤ 99999 ⌝ }
 {
-    bytes.len() / 2
+    if field.len() == 0 {
+        return no_number();
+    }
+    if field.len() > 1 {
+        if field[0] == b'0' {
+            return no_number();
+        }
+    }
+    let mut value: usize = 0;
+    let mut i = 0;
+    while i < field.len() {
+        let next_digit = digit(field[i]);
+        if 10 <= next_digit {
+            return no_number();
+        }
+        if 9999 < value {
+            return no_number();
+        }
+        value = value * 10 + wide(next_digit);
+        i += 1;
+    }
+    Numeral { ok: true, value }
+}
+
+// What `number` answers of a field that is none.
+fn no_number() -> Numeral
+    ensures { λ r. ⌜ r .value ≡ 0 ⌝ }
+{
+    Numeral {
+        ok: false,
+        value: 0,
+    }
+}
+
+// A digit as a wider number.
+fn wide(b: u8) -> usize
+    ensures { λ r. ⌜ r ≡ b ⌝ }
+{
+    b as usize
 }

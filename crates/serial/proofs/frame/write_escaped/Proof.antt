@@ -1,45 +1,26 @@
 -- `serial::frame::write_escaped` meets its contract. The loop's invariant: to write what is left of the packet, escaped, from the place on
 -- makes the output that is promised. A turn writes the first byte of what is left. Assumes nothing.
-use Prim.Native.Nat.{ℕ, _+_, _-_, _≤_, _<_}
-use mathlib.Core.Path.{_≡_, _∙_, ap, ap₂, refl, sym}
-use mathlib.Core.List.{List, [], _++_}
-use native.Mathlib.Numerals.{add-one}
+use Prim.Native.Nat.{ℕ, _+_, _-_, _≤_}
+use mathlib.Core.Path.{_≡_, _∙_, ap, refl, sym}
+use mathlib.Core.List.{List, [], _∷_, _++_}
 use native.Mathlib.Omega.{arith}
-use lib.ListN.{length, drop, getD, drop-of-length-le, length-append}
-use lib.Seq.{drop-cons}
+use lib.ListN.{length, drop, getD}
 use borrow.Author.Needs.{needs}
 use Rattle.checks.specs.Output.{putAt}
-use Rattle.checks.proofs.Output.{put-none, put-put, length-put}
+use Rattle.checks.proofs.Each.{each-end, each-room, each-turn}
+use Rattle.checks.proofs.Output.{put-none, length-put}
 use Rattle.serial.specs.Frame.{escaped, escapedAll}
 use Rattle.serial.proofs.frame.write_escaped.Statement.{statement}
 use Rattle.serial.proofs.frame.write_escaped.Tie as tie
 
--- what is left from i on, escaped: a byte's part and the rest
-escaped-next : (packet : List ℕ) (i : ℕ) → i < length packet
-    → escapedAll (drop i packet) ≡ escaped (getD packet i 0) ++ escapedAll (drop (i + 1) packet)
+-- the packet escaped is each of its bytes escaped
+escaped-none : escapedAll [] ≡ []
 unfolding escapedAll
-escaped-next packet i h = rw (add-one, drop-cons packet i 0)
+escaped-none = refl
 
-escaped-end : (packet : List ℕ) (i : ℕ) → length packet ≤ i → escapedAll (drop i packet) ≡ []
+escaped-more : (b : ℕ) (bs : List ℕ) → escapedAll (b ∷ bs) ≡ escaped b ++ escapedAll bs
 unfolding escapedAll
-escaped-end packet i h = ap escapedAll (drop-of-length-le packet {i = i} h)
-
--- the room that the byte and the rest take
-room-next : (packet : List ℕ) (i : ℕ) → i < length packet
-    → length (escapedAll (drop i packet)) ≡ length (escaped (getD packet i 0)) + length (escapedAll (drop (i + 1) packet))
-room-next packet i h =
-    ap length (escaped-next packet i h) ∙ length-append (escaped (getD packet i 0)) (escapedAll (drop (i + 1) packet))
-
--- a turn: the byte is put, and then the rest
-put-turn : (packet : List ℕ) (i place next : ℕ) (out made : List ℕ) → i < length packet
-    → next ≡ place + length (escaped (getD packet i 0)) → next ≤ length out → made ≡ putAt place (escaped (getD packet i 0)) out
-    → putAt next (escapedAll (drop (i + 1) packet)) made ≡ putAt place (escapedAll (drop i packet)) out
-put-turn packet i place next out made h en room em =
-    let now = escaped (getD packet i 0) in
-    let rest = escapedAll (drop (i + 1) packet) in
-    ap₂ (λ (n : ℕ) (xs : List ℕ). putAt n rest xs) en em
-    ∙ put-put place now rest out (omega arith)
-    ∙ ap (λ (ys : List ℕ). putAt place ys out) (sym (escaped-next packet i h))
+escaped-more b bs = refl
 
 abbrev Inv-loop : tie.InvT-loop
 Inv-loop packet out₀ start place₀ i₀ out place i =
@@ -61,7 +42,7 @@ write-byte-requires : tie.Need-write-byte-requires Inv-loop μ-loop
 write-byte-requires c κs =
     let l = c .before .before .before in
     let packet = l .before .before .before .args .packet .now in
-    omega (arith, room-next packet (l .loop .i) (omega arith), l .loop .inv)
+    omega (arith, each-room escaped escapedAll escaped-none escaped-more packet (l .loop .i) (omega arith), l .loop .inv)
 
 add-i : tie.Need-add-i Inv-loop μ-loop
 add-i c = search needs
@@ -74,12 +55,12 @@ loop-again c =
     let w = c .before .before in
     let l = w .before .before .before .before in
     let packet = l .before .before .before .args .packet .now in
-    let r = room-next packet (l .loop .i) (omega arith) in
+    let r = each-room escaped escapedAll escaped-none escaped-more packet (l .loop .i) (omega arith) in
     let e = w .write-byte .ensures in (
       search needs,
       ap length (e .1) ∙ length-put (l .loop .place) (escaped (getD packet (l .loop .i) 0)) (l .loop .out) (omega arith) ∙ l .loop .inv .1,
       omega arith,
-      put-turn packet (l .loop .i) (l .loop .place) _ (l .loop .out) _ (omega arith) (e .0) (omega arith) (e .1) ∙ l .loop .inv .3,
+      each-turn escaped escapedAll escaped-none escaped-more packet (l .loop .i) (l .loop .place) _ (l .loop .out) _ (omega arith) (e .0) (omega arith) (e .1) ∙ l .loop .inv .3,
     )
 
 same-length : tie.Need-same-length Inv-loop μ-loop
@@ -89,7 +70,7 @@ returns : tie.Need-returns Inv-loop μ-loop
 returns c =
     let l = c .before in
     let packet = l .before .before .before .args .packet .now in
-    let e = escaped-end packet (l .loop .i) (omega arith) in
+    let e = each-end escaped escapedAll escaped-none escaped-more packet (l .loop .i) (omega arith) in
     let place = l .loop .place in
     let out = l .loop .out in
     let kept = put-none place out (omega (arith, ap length e)) in

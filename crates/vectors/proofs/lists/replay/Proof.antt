@@ -34,8 +34,8 @@ is-vector-requires c κs = search needs
 add-vectors : tie.Need-add-vectors Inv-loop μ-loop
 add-vectors c = search needs
 
-replay-requires : tie.Need-replay-requires Inv-loop μ-loop
-replay-requires c κs = search needs
+agrees-requires : tie.Need-agrees-requires Inv-loop μ-loop
+agrees-requires c κs = search needs
 
 add-disagree : tie.Need-add-disagree Inv-loop μ-loop
 add-disagree c = search needs
@@ -68,7 +68,7 @@ replay-spec =
     part-line-end
     is-vector-requires
     add-vectors
-    replay-requires
+    agrees-requires
     add-disagree
     add-at
     loop-less

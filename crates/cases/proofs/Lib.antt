@@ -1,0 +1,2 @@
+pub mod Definite
+pub mod MarkedCases

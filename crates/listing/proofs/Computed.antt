@@ -1,0 +1,16 @@
+-- The text is computed from the definitions. It rests on no law, so that an error in a definition shows here. Assumes nothing.
+use mathlib.Core.Path.{refl}
+use Rattle.checks.specs.Register.{bitStep, bitSteps, byteStep, checkFrom}
+use Rattle.serial.specs.Receiver.{agreesOf, consistentOf, fitsAt, rowOf, stepOf}
+use Rattle.serial.specs.Run.{outsOf}
+use Rattle.listing.specs.Closing.{digitsOf}
+use Rattle.listing.specs.Computed.{CaseAWritten, LargestWritten}
+use Rattle.listing.specs.Text.{hexAll, linesOf, packetsOf}
+
+pub case-a-written : CaseAWritten
+unfolding hexAll linesOf packetsOf digitsOf outsOf stepOf consistentOf fitsAt rowOf agreesOf checkFrom byteStep bitSteps bitStep
+case-a-written = (refl, refl)
+
+pub largest-written : LargestWritten
+unfolding digitsOf
+largest-written = refl

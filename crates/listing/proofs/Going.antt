@@ -1,0 +1,129 @@
+-- A listing under way: what the rest of the input gives, from the state and the place reached, completes the packets, the text and the state of the
+-- whole. A call of the taker moves it on, since one pass goes on behind the bytes that the call took. Assumes nothing.
+use Prim.Native.Nat.{ℕ, _+_, _-_, _≤_, _<_}
+use mathlib.Core.Path.{_≡_, _∙_, ap, ap₂, refl, subst, sym}
+use mathlib.Core.List.{List, [], _++_}
+use native.Mathlib.Nat.{zero-add}
+use native.Mathlib.Omega.{arith}
+use lib.ListN.{length, drop, take, drop-of-length-le, length-append, length-drop}
+use lib.Seq.{drop-drop}
+use borrow.Rule.Slice.PartAt.{part-to-end}
+use Rattle.checks.specs.Laws.{Bytes}
+use Rattle.checks.specs.Output.{putAt}
+use Rattle.checks.proofs.Bytes.{bytes-drop}
+use Rattle.checks.proofs.Output.{length-put, put-none, put-put}
+use Rattle.serial.specs.declared.receiver.Receiver.{Receiver}
+use Rattle.serial.specs.Consistency.{Consistent}
+use Rattle.serial.specs.Run.{outsOf, runOf}
+use Rattle.listing.specs.Text.{heard, linesOf, packetsOf}
+use Rattle.listing.specs.Turn.{nextHeard, nextTaken}
+use Rattle.listing.proofs.Said.{Said}
+use Rattle.listing.proofs.TextMade.{lines-least}
+use Rattle.listing.proofs.TurnLaws.{lines-append, next-heard, next-kept, next-run, next-some, next-within}
+
+-- of an input from the state s₀ into the output out₀: what is reached is the state s, the place, `used` bytes of text in `out`, and so many packets
+pub record Going (input out₀ : List ℕ) (s₀ : Receiver) (out : List ℕ) (s : Receiver) (place used packets : ℕ) : Type 0 where
+  pub within : place ≤ length input
+  pub fits : Consistent s
+  pub run : runOf s (drop place input) ≡ runOf s₀ input
+  pub sized : length out ≡ length out₀
+  pub counted : packets + length (heard s (drop place input)) ≡ length (heard s₀ input)
+  pub measured : used + length (linesOf (heard s (drop place input))) ≡ length (linesOf (heard s₀ input))
+  pub text : putAt used (linesOf (heard s (drop place input))) out ≡ putAt 0 (linesOf (heard s₀ input)) out₀
+
+-- at the start
+pub begun : (input out : List ℕ) (s : Receiver) → Consistent s → Going input out s out s 0 0 0
+begun input out s fits =
+    record { within = omega arith; fits = fits; run = refl; sized = refl; counted = zero-add _; measured = zero-add _; text = refl }
+
+module _ (input out₀ : List ℕ) (s₀ : Receiver) (out : List ℕ) (s : Receiver) (place used packets : ℕ) (g : Going input out₀ s₀ out s place used packets)
+    (bytes : Bytes input) (room : length (linesOf (heard s₀ input)) ≤ length out₀) where
+  rest : List ℕ
+  rest = drop place input
+
+  -- the part that is lent to the call is the rest
+  lent : take (length input - place) (drop place input) ≡ drop place input
+  lent = part-to-end input place
+
+  pub rest-fits : used + length (linesOf (heard s (take (length input - place) (drop place input)))) ≤ length out
+  rest-fits = omega (arith, ap (λ (xs : List ℕ). length (linesOf (heard s xs))) lent, g .measured, g .sized)
+
+  -- a call
+  module _ (taken end more : ℕ) (state : Receiver) (left : List ℕ)
+      (said : Said s (take (length input - place) (drop place input)) used out taken end more state left) where
+    of-rest : Said s (drop place input) used out taken end more state left
+    of-rest = subst (λ (xs : List ℕ). Said s xs used out taken end more state left) lent said
+
+    first : List (List ℕ)
+    first = nextHeard s (drop place input)
+
+    later : List (List ℕ)
+    later = heard state (drop (place + taken) input)
+
+    -- behind the bytes taken
+    behind : drop (nextTaken s (drop place input) .taken) (drop place input) ≡ drop (place + taken) input
+    behind = ap (λ (n : ℕ). drop n (drop place input)) (sym (of-rest .0)) ∙ drop-drop taken place input
+
+    goes-on : heard s (drop place input) ≡ first ++ later
+    unfolding first later
+    goes-on =
+        next-heard s (drop place input) (g .fits)
+        ∙ ap₂ (λ (u : Receiver) (xs : List ℕ). nextHeard s (drop place input) ++ heard u xs) (sym (of-rest .1 .1 .1 .0)) behind
+
+    lines-go-on : linesOf (heard s (drop place input)) ≡ linesOf first ++ linesOf later
+    lines-go-on = ap linesOf goes-on ∙ lines-append first later
+
+    pub taken-within : place + taken ≤ length input
+    taken-within = omega (arith, of-rest .0, next-within s (drop place input) (g .fits), length-drop place input, g .within)
+
+    pub taken-some : place < length input → 1 ≤ taken
+    taken-some h =
+        omega (arith, of-rest .0, next-some s (drop place input) (g .fits) (omega (arith, length-drop place input)))
+
+    pub counted-within : packets + more ≤ length out₀
+    unfolding first
+    counted-within =
+        omega (arith, g .counted, of-rest .1 .1 .0, ap length goes-on, length-append first later, lines-least (heard s₀ input))
+
+    pub moved : Going input out₀ s₀ left state (place + taken) end (packets + more)
+    unfolding first later
+    moved =
+        let text = length-append (linesOf first) (linesOf later) in
+        record {
+          within = taken-within;
+          fits = subst Consistent (sym (of-rest .1 .1 .1 .0)) (next-kept s (drop place input) (g .fits) (bytes-drop place input bytes));
+          run =
+              ap₂ (λ (u : Receiver) (xs : List ℕ). runOf u xs) (of-rest .1 .1 .1 .0) (sym behind)
+              ∙ sym (next-run s (drop place input) (g .fits)) ∙ g .run;
+          sized =
+              ap length (of-rest .1 .1 .1 .1)
+              ∙ length-put used (linesOf first) out (omega (arith, text, ap length lines-go-on, g .measured, g .sized))
+              ∙ g .sized;
+          counted = omega (arith, g .counted, of-rest .1 .1 .0, ap length goes-on, length-append first later);
+          measured = omega (arith, g .measured, of-rest .1 .0, ap length lines-go-on, text);
+          text =
+              ap₂ (λ (n : ℕ) (xs : List ℕ). putAt n (linesOf later) xs) (of-rest .1 .0) (of-rest .1 .1 .1 .1)
+              ∙ put-put used (linesOf first) (linesOf later) out (omega (arith, text, ap length lines-go-on, g .measured, g .sized))
+              ∙ ap (λ (xs : List ℕ). putAt used xs out) (sym lines-go-on)
+              ∙ g .text;
+        }
+
+-- the rest of an input whose end is reached gives nothing
+none-heard : (input : List ℕ) (s : Receiver) (place : ℕ) → length input ≤ place → heard s (drop place input) ≡ []
+unfolding outsOf packetsOf
+none-heard input s place h = ap (heard s) (drop-of-length-le input {i = place} h)
+
+-- at its end all is done
+pub ended : (input out₀ : List ℕ) (s₀ : Receiver) (out : List ℕ) (s : Receiver) (place used packets : ℕ)
+    → Going input out₀ s₀ out s place used packets → length input ≤ place → length (linesOf (heard s₀ input)) ≤ length out₀
+    → (used ≡ length (linesOf (heard s₀ input))) × (packets ≡ length (heard s₀ input)) × (s ≡ runOf s₀ input)
+    × (out ≡ putAt 0 (linesOf (heard s₀ input)) out₀)
+unfolding runOf linesOf
+ended input out₀ s₀ out s place used packets g h room =
+    let none = none-heard input s place h in
+    let no-text : linesOf (heard s (drop place input)) ≡ [] = ap linesOf none in (
+      omega (arith, g .measured, ap length no-text),
+      omega (arith, g .counted, ap length none),
+      sym (ap (runOf s) (drop-of-length-le input {i = place} h)) ∙ g .run,
+      sym (ap (λ (xs : List ℕ). putAt used xs out) no-text ∙ put-none used out (omega (arith, g .measured, ap length no-text, g .sized))) ∙ g .text,
+    )

@@ -1,0 +1,11 @@
+pub mod TextMade
+pub mod TurnLaws
+pub mod Said
+pub mod Going
+pub mod Room
+pub mod ListSaid
+pub mod Pieces
+pub mod DecimalLaws
+pub mod TextLaws
+pub mod OneResult
+pub mod Computed

@@ -1,0 +1,47 @@
+-- Each public function allows one result, and leaves one content in what it is lent, by its contract as the source states it (`Reads.Post`).
+-- Assumes nothing.
+use Prim.Native.Nat.{ℕ}
+use mathlib.Core.Path.{_≡_, _∙_, ap, ap₂, refl, sym}
+use mathlib.Core.Bool.{cond}
+use lib.Dec.{eqb}
+use lib.ListN.{getD}
+use denote.Ref.{now}
+use Rattle.checks.specs.Numbers.{Answer, done, shortOutput}
+use Rattle.checks.specs.OneResult.{OneOutcome}
+use Rattle.checks.proofs.Numbers.{tells}
+use Rattle.serial.specs.declared.receiver.Receiver.{Receiver}
+use Rattle.listing.specs.declared.lines.Lines.{Lines}
+use Rattle.listing.specs.declared.lines.Lines.the-variants.{Done, Inconsistent, ShortOutput}
+use Rattle.listing.specs.declared.lines.Listed.{Listed}
+use Rattle.listing.specs.Listing.{linesAnswer}
+use Rattle.listing.proofs.closing_line.closing.Kinds as closing
+use Rattle.listing.proofs.closing_line.closing.Reads as closing-reads
+use Rattle.listing.proofs.lines.list.Kinds as list
+use Rattle.listing.proofs.lines.list.Reads as list-reads
+
+-- the output is the last parameter
+pub closing-one : OneOutcome 1 closing.ps closing.r (λ κs e. now (e .1 .1 .0)) closing-reads.Post
+closing-one κs a x y e f p q = (p .1 .0 ∙ sym (q .1 .0), p .1 .1 ∙ sym (q .1 .1))
+
+-- the result, back from its answer
+abbrev back : Answer → Lines
+back a = cond (eqb (a .number) done) (Done (getD (a .values) 0 0)) (cond (eqb (a .number) shortOutput) ShortOutput Inconsistent)
+
+there-and-back : (x : Lines) → back (linesAnswer x) ≡ x
+there-and-back (Done n) = refl
+there-and-back ShortOutput = refl
+there-and-back Inconsistent = refl
+
+same-lines : (x y : Lines) → linesAnswer x ≡ linesAnswer y → x ≡ y
+same-lines = tells linesAnswer back there-and-back
+
+same-listed : (x y : Listed) → x .answer ≡ y .answer → x .packets ≡ y .packets → x .state ≡ y .state → x ≡ y
+same-listed x y ea ep es =
+    ap₂ (λ (a : Lines) (n : ℕ). record { answer = a; packets = n; state = x .state }) ea ep
+    ∙ ap (λ (s : Receiver). record { answer = y .answer; packets = y .packets; state = s }) es
+
+pub list-one : OneOutcome 2 list.ps list.r (λ κs e. now (e .1 .1 .0)) list-reads.Post
+list-one κs a x y e f p q = (
+  same-listed x y (same-lines (x .answer) (y .answer) (p .0 ∙ sym (q .0))) (p .1 .1 .0 ∙ sym (q .1 .1 .0)) (p .1 .1 .1 .0 ∙ sym (q .1 .1 .1 .0)),
+  p .1 .1 .1 .1 ∙ sym (q .1 .1 .1 .1),
+)

@@ -1,0 +1,29 @@
+-- `listing::hex::digit` meets its contract: its test is the definition's. Assumes nothing.
+use Prim.Native.Nat.{ℕ, _+_, _≤_, _<_}
+use mathlib.Core.Path.{_≡_}
+use borrow.Author.Needs.{needs}
+use borrow.Author.Tests.{le-ltb, lt-ltb}
+use Rattle.io.specs.Digits.{glyph}
+use Rattle.listing.proofs.hex.digit.Statement.{statement}
+use Rattle.listing.proofs.hex.digit.Tie as tie
+
+numeral : (d : ℕ) → d < 10 → 48 + d ≡ glyph d
+numeral d h = simp (lt-ltb d 10 h)
+
+letter : (d : ℕ) → 10 ≤ d → 87 + d ≡ glyph d
+letter d h = simp (le-ltb d 10 h)
+
+add-result : tie.Need-add-result
+add-result c = search needs
+
+returns : tie.Need-returns
+returns c = numeral _ (c .if1 .taken)
+
+add-result-2 : tie.Need-add-result-2
+add-result-2 c = search needs
+
+returns-2 : tie.Need-returns-2
+returns-2 c = letter _ (c .if1 .left)
+
+pub digit-spec : {M : Type 1} → statement M
+digit-spec = tie.close (tie.spec add-result returns add-result-2 returns-2)

@@ -1,0 +1,37 @@
+-- Packets as text: a packet is a line of lower-case hex (document 01, 'Program'). Assumes nothing.
+use Prim.Native.Nat.{ℕ, _/_, _%_}
+use mathlib.Core.List.{List, [], _∷_, _++_}
+use Rattle.io.specs.Digits.{glyph}
+use Rattle.serial.specs.declared.receiver.Receiver.{Receiver}
+use Rattle.serial.specs.Run.{outsOf}
+
+-- the line feed that ends a line
+abbrev pub lineFeed : ℕ
+lineFeed = 0x0a
+
+-- a byte's two digits, the high one first; the kit's `glyph` is the ASCII code of a digit, `0` to `9` and then `a` to `f`
+abbrev pub hexOf : ℕ → List ℕ
+hexOf b = glyph (b / 16) ∷ glyph (b % 16) ∷ []
+
+-- the digits of all bytes
+unfoldable pub hexAll : List ℕ → List ℕ
+hexAll [] = []
+hexAll (b ∷ bs) = hexOf b ++ hexAll bs
+
+-- a packet's line
+abbrev pub lineOf : List ℕ → List ℕ
+lineOf packet = hexAll packet ++ (lineFeed ∷ [])
+
+-- the lines of packets, one behind the other
+unfoldable pub linesOf : List (List ℕ) → List ℕ
+linesOf [] = []
+linesOf (p ∷ ps) = lineOf p ++ linesOf ps
+
+-- the packets without their places
+unfoldable pub packetsOf : List (ℕ × List ℕ) → List (List ℕ)
+packetsOf [] = []
+packetsOf (o ∷ os) = o .1 ∷ packetsOf os
+
+-- the packets that bytes hand out, from a receiver's state on
+abbrev pub heard : Receiver → List ℕ → List (List ℕ)
+heard s bytes = packetsOf (outsOf 0 s bytes)

@@ -1,0 +1,148 @@
+// The packets that bytes of a serial line hand out, as lines of hex in a lent output.
+ghost use Prim.Native.Nat.{_+_, _≤_};
+ghost use mathlib.Core.Path.{_≡_};
+ghost use mathlib.Core.Bool.{true};
+ghost use mathlib.Core.List.{[], _∷_};
+ghost use lib.ListN.{length};
+ghost use Rattle.checks.specs.Numbers.{answer, done};
+ghost use Rattle.checks.specs.Output.{atStart, putAt};
+ghost use Rattle.serial.specs.Receiver.{consistentOf};
+ghost use Rattle.serial.specs.Run.{runOf};
+ghost use Rattle.listing.specs.Listing.{Within, linesAnswer, listAnswer, listed, roomy, stateAfter};
+ghost use Rattle.listing.specs.Text.{heard, linesOf};
+ghost use Rattle.listing.specs.Turn.{nextHeard, nextTaken};
+use crate::hex::put_line;
+use serial::Reason;
+use serial::Receiver;
+
+// What `list` answers: the length of the text, or number 2 or 9.
+pub enum Lines {
+    Done(usize),
+    ShortOutput,
+    Inconsistent,
+}
+
+// The answer, how many packets were listed, and the state after it.
+pub struct Listed {
+    pub answer: Lines,
+    pub packets: usize,
+    pub state: Receiver,
+}
+
+// Whether an output of `room` bytes has the room that an input of `size` bytes asks: two bytes for each of them, and 518 more.
+fn has_room(size: usize, room: usize) -> bool
+    ensures { λ r. ⌜ r ≡ roomy size room ⌝ }
+{
+    if room < 518 {
+        return false;
+    }
+    size <= (room - 518) / 2
+}
+
+// What a call of the taker adds: the bytes that it took, the place behind the text, the packets, one or none, and the state after it.
+struct Turn {
+    taken: usize,
+    used: usize,
+    packets: usize,
+    state: Receiver,
+}
+
+// No packet was handed out.
+fn no_packet(taken: usize, used: usize, state: Receiver) -> Turn
+    ensures { λ r. ⌜ r ≡ record { taken = taken; used = used; packets = 0; state = state } ⌝ }
+{
+    Turn {
+        taken,
+        used,
+        packets: 0,
+        state,
+    }
+}
+
+// Calls the taker once, from a consistent state, and puts the line of a packet that it hands out behind the `used` bytes of the output.
+fn list_next(receiver: Receiver, input: &[u8], out: &mut [u8], used: usize) -> Turn
+    requires { ⌜ (consistentOf receiver ≡ true) × (used + length (linesOf (heard receiver (now input))) ≤ length (now out)) ⌝ }
+    ensures { λ r. ⌜ r .taken ≡ nextTaken receiver (now (input .entry)) .taken ⌝ }
+    ensures { λ r. ⌜ r .used ≡ used + length (linesOf (nextHeard receiver (now (input .entry)))) ⌝ }
+    ensures { λ r. ⌜ r .packets ≡ length (nextHeard receiver (now (input .entry))) ⌝ }
+    ensures { λ r. ⌜ r .state ≡ nextTaken receiver (now (input .entry)) .state ⌝ }
+    ensures { λ _. ⌜ now (out .exit) ≡ putAt used (linesOf (nextHeard receiver (now (input .entry)))) (now (out .entry)) ⌝ }
+{
+    let mut packet = [0u8; 255];
+    let t = receiver.take(input, input.len(), &mut packet);
+    let reason = t.reason;
+    let state = t.state;
+    match reason {
+        Reason::Packet(n) => {
+            let end = put_line(&packet[..n], out, used);
+            Turn {
+                taken: t.taken,
+                used: end,
+                packets: 1,
+                state,
+            }
+        }
+        Reason::InputEnded => no_packet(t.taken, used, state),
+        Reason::AllowanceSpent => no_packet(t.taken, used, state),
+        Reason::ShortOutput => no_packet(t.taken, used, state),
+        Reason::Inconsistent => no_packet(t.taken, used, state),
+    }
+}
+
+// Lists the whole input, from a consistent state, into an output that has room for the text.
+fn list_all(receiver: Receiver, input: &[u8], out: &mut [u8]) -> Listed
+    requires { ⌜ (consistentOf receiver ≡ true) × (length (linesOf (heard receiver (now input))) ≤ length (now out)) ⌝ }
+    ensures { λ r. ⌜ linesAnswer (r .answer) ≡ answer done (length (linesOf (heard receiver (now (input .entry)))) ∷ []) ⌝ }
+    ensures { λ r. ⌜ Within (r .answer) (now (out .exit)) ⌝ }
+    ensures { λ r. ⌜ r .packets ≡ length (heard receiver (now (input .entry))) ⌝ }
+    ensures { λ r. ⌜ r .state ≡ runOf receiver (now (input .entry)) ⌝ }
+    ensures { λ _. ⌜ now (out .exit) ≡ atStart (linesOf (heard receiver (now (input .entry)))) (now (out .entry)) ⌝ }
+{
+    let mut state = receiver;
+    let mut place = 0;
+    let mut used = 0;
+    let mut packets = 0;
+    while place < input.len() {
+        let turn = list_next(state, &input[place..], out, used);
+        place += turn.taken;
+        used = turn.used;
+        packets += turn.packets;
+        let next = turn.state;
+        state = next;
+    }
+    Listed {
+        answer: Lines::Done(used),
+        packets,
+        state,
+    }
+}
+
+// Feeds the whole input to the receiver and writes each packet that it hands out as a line of lower-case hex, one behind the other, at the
+// output's start. It answers the length of the text and how many packets there are, and hands back the state, for the bytes that come next. It
+// refuses an inconsistent state (Inconsistent, number 9), and a fresh one comes back; then an output shorter than twice the input and 518 bytes
+// (ShortOutput, number 2), and the state that went in comes back. A refusal feeds no byte and writes nothing, and the bytes beyond the text keep
+// their content.
+pub fn list(receiver: Receiver, input: &[u8], out: &mut [u8]) -> Listed
+    ensures { λ r. ⌜ linesAnswer (r .answer) ≡ listAnswer (now (input .entry)) (length (now (out .entry))) receiver ⌝ }
+    ensures { λ r. ⌜ Within (r .answer) (now (out .exit)) ⌝ }
+    ensures { λ r. ⌜ r .packets ≡ length (listed (now (input .entry)) (length (now (out .entry))) receiver) ⌝ }
+    ensures { λ r. ⌜ r .state ≡ stateAfter (now (input .entry)) (length (now (out .entry))) receiver ⌝ }
+    ensures { λ r. ⌜ now (out .exit) ≡ atStart (linesOf (listed (now (input .entry)) (length (now (out .entry))) receiver)) (now (out .entry)) ⌝ }
+{
+    if receiver.consistent() {
+        if has_room(input.len(), out.len()) {
+            return list_all(receiver, input, out);
+        }
+        return Listed {
+            answer: Lines::ShortOutput,
+            packets: 0,
+            state: receiver,
+        };
+    }
+    let state = Receiver::fresh();
+    Listed {
+        answer: Lines::Inconsistent,
+        packets: 0,
+        state,
+    }
+}
