@@ -23,6 +23,8 @@ use Rattle.listing.proofs.TurnLaws.{lines-append, next-heard, next-kept
 
 -- of an input from the state s₀ into the output out₀: what is reached is the state s, the place, `used` bytes of text in `out`, and so many packets
 pub record Going (input out₀ : List ℕ) (s₀ : Receiver) (out : List ℕ) (s : Receiver) (place used packets : ℕ) : Type 0 where
+  pub bytes : Bytes input
+  pub room : length (linesOf (heard s₀ input)) ≤ length out₀
   pub within : place ≤ length input
   pub fits : Consistent s
   pub run : runOf s (drop place input) ≡ runOf s₀ input
@@ -32,24 +34,29 @@ pub record Going (input out₀ : List ℕ) (s₀ : Receiver) (out : List ℕ) (s
   pub text : putAt used (linesOf (heard s (drop place input))) out ≡ putAt 0 (linesOf (heard s₀ input)) out₀
 
 -- at the start
-pub begun : (input out : List ℕ) (s : Receiver) → Consistent s → Going input out s out s 0 0 0
-begun input out s fits =
-    record { within = omega arith; fits = fits; run = refl; sized = refl; counted = zero-add _; measured = zero-add _; text = refl }
+pub begun : (input out : List ℕ) (s : Receiver) → Bytes input → length (linesOf (heard s input)) ≤ length out → Consistent s → Going input out s out s 0 0 0
+begun input out s bytes room fits = record {
+  bytes = bytes;
+  room = room;
+  within = omega arith;
+  fits = fits;
+  run = refl;
+  sized = refl;
+  counted = zero-add _;
+  measured = zero-add _;
+  text = refl;
+}
 
-module _ (input out₀ : List ℕ) (s₀ : Receiver) (out : List ℕ) (s : Receiver) (place used packets : ℕ) (g : Going input out₀ s₀ out s place used packets)
-    (bytes : Bytes input) (room : length (linesOf (heard s₀ input)) ≤ length out₀) where
-  rest : List ℕ
-  rest = drop place input
-
+module _ {input out₀ : List ℕ} {s₀ : Receiver} {out : List ℕ} {s : Receiver} {place used packets : ℕ} (g : Going input out₀ s₀ out s place used packets) where
   -- the part that is lent to the call is the rest
   lent : take (length input - place) (drop place input) ≡ drop place input
   lent = part-to-end input place
 
   pub rest-fits : used + length (linesOf (heard s (take (length input - place) (drop place input)))) ≤ length out
-  rest-fits = omega (arith, ap (λ (xs : List ℕ). length (linesOf (heard s xs))) lent, g .measured, g .sized)
+  rest-fits = omega (arith, ap (λ (xs : List ℕ). length (linesOf (heard s xs))) lent, g .measured, g .sized, g .room)
 
   -- a call
-  module _ (taken end more : ℕ) (state : Receiver) (left : List ℕ)
+  module _ {taken end more : ℕ} {state : Receiver} {left : List ℕ}
       (said : Said s (take (length input - place) (drop place input)) used out taken end more state left) where
     of-rest : Said s (drop place input) used out taken end more state left
     of-rest = subst (λ (xs : List ℕ). Said s xs used out taken end more state left) lent said
@@ -83,27 +90,29 @@ module _ (input out₀ : List ℕ) (s₀ : Receiver) (out : List ℕ) (s : Recei
     pub counted-within : packets + more ≤ length out₀
     unfolding first
     counted-within =
-        omega (arith, g .counted, of-rest .1 .1 .0, ap length goes-on, length-append first later, lines-least (heard s₀ input))
+        omega (arith, g .counted, of-rest .1 .1 .0, ap length goes-on, length-append first later, lines-least (heard s₀ input), g .room)
 
     pub moved : Going input out₀ s₀ left state (place + taken) end (packets + more)
     unfolding first later
     moved =
         let text = length-append (linesOf first) (linesOf later) in
         record {
+          bytes = g .bytes;
+          room = g .room;
           within = taken-within;
-          fits = subst Consistent (sym (of-rest .1 .1 .1 .0)) (next-kept s (drop place input) (g .fits) (bytes-drop place input bytes));
+          fits = subst Consistent (sym (of-rest .1 .1 .1 .0)) (next-kept s (drop place input) (g .fits) (bytes-drop place input (g .bytes)));
           run =
               ap₂ (λ (u : Receiver) (xs : List ℕ). runOf u xs) (of-rest .1 .1 .1 .0) (sym behind)
               ∙ sym (next-run s (drop place input) (g .fits)) ∙ g .run;
           sized =
               ap length (of-rest .1 .1 .1 .1)
-              ∙ length-put used (linesOf first) out (omega (arith, text, ap length lines-go-on, g .measured, g .sized))
+              ∙ length-put used (linesOf first) out (omega (arith, text, ap length lines-go-on, g .measured, g .sized, g .room))
               ∙ g .sized;
           counted = omega (arith, g .counted, of-rest .1 .1 .0, ap length goes-on, length-append first later);
           measured = omega (arith, g .measured, of-rest .1 .0, ap length lines-go-on, text);
           text =
               ap₂ (λ (n : ℕ) (xs : List ℕ). putAt n (linesOf later) xs) (of-rest .1 .0) (of-rest .1 .1 .1 .1)
-              ∙ put-put used (linesOf first) (linesOf later) out (omega (arith, text, ap length lines-go-on, g .measured, g .sized))
+              ∙ put-put used (linesOf first) (linesOf later) out (omega (arith, text, ap length lines-go-on, g .measured, g .sized, g .room))
               ∙ ap (λ (xs : List ℕ). putAt used xs out) (sym lines-go-on)
               ∙ g .text;
         }
@@ -114,16 +123,16 @@ unfolding outsOf packetsOf
 none-heard input s place h = ap (heard s) (drop-of-length-le input {i = place} h)
 
 -- at its end all is done
-pub ended : (input out₀ : List ℕ) (s₀ : Receiver) (out : List ℕ) (s : Receiver) (place used packets : ℕ)
-    → Going input out₀ s₀ out s place used packets → length input ≤ place → length (linesOf (heard s₀ input)) ≤ length out₀
+pub ended : {input out₀ : List ℕ} {s₀ : Receiver} {out : List ℕ} {s : Receiver} {place used packets : ℕ}
+    → Going input out₀ s₀ out s place used packets → length input ≤ place
     → (used ≡ length (linesOf (heard s₀ input))) × (packets ≡ length (heard s₀ input)) × (s ≡ runOf s₀ input)
     × (out ≡ putAt 0 (linesOf (heard s₀ input)) out₀)
 unfolding runOf linesOf
-ended input out₀ s₀ out s place used packets g h room =
+ended {input} {out₀} {s₀} {out} {s} {place} {used} g h =
     let none = none-heard input s place h in
     let no-text : linesOf (heard s (drop place input)) ≡ [] = ap linesOf none in (
       omega (arith, g .measured, ap length no-text),
       omega (arith, g .counted, ap length none),
       sym (ap (runOf s) (drop-of-length-le input {i = place} h)) ∙ g .run,
-      sym (ap (λ (xs : List ℕ). putAt used xs out) no-text ∙ put-none used out (omega (arith, g .measured, ap length no-text, g .sized))) ∙ g .text,
+      sym (ap (λ (xs : List ℕ). putAt used xs out) no-text ∙ put-none used out (omega (arith, g .measured, ap length no-text, g .sized, g .room))) ∙ g .text,
     )

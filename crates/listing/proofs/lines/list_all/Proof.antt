@@ -20,7 +20,8 @@ abbrev μ-loop : tie.MeasureT-loop
 loop-holds : tie.Need-loop-holds Inv-loop μ-loop
 loop-holds c =
     let a = c .before .before in
-    begun (a .args .input .now) (a .args .out .now) (a .args .receiver) (record { sized = search needs; fits = a .pre .0 })
+    begun (a .args .input .now) (a .args .out .now) (a .args .receiver) (λ i. c .before .shared-slice-known .given i .fits) (a .pre .1)
+    (record { sized = search needs; fits = a .pre .0 })
 
 sub-list-next : tie.Need-sub-list-next Inv-loop μ-loop
 sub-list-next c = search needs
@@ -33,16 +34,15 @@ part-list-next-end c = search needs
 
 list-next-requires : tie.Need-list-next-requires Inv-loop μ-loop
 list-next-requires c κs =
-    let l = c .before .before .before in
-    let a = l .before .before .before in
-    (l .loop .inv .fits .fits, rest-fits _ _ _ _ _ _ _ _ (l .loop .inv) (λ i. l .before .before .shared-slice-known .given i .fits) (a .pre .1))
+    let g = c .before .before .before .loop .inv in
+    (g .fits .fits, rest-fits g)
 
 add-place : tie.Need-add-place Inv-loop μ-loop
 add-place c =
     let n = c .before .before .before in
     let l = n .before .before .before .before in
     let a = l .before .before .before in
-    let h = taken-within _ _ _ _ _ _ _ _ (l .loop .inv) (λ i. l .before .before .shared-slice-known .given i .fits) (a .pre .1) _ _ _ _ _ (n .list-next .ensures) in
+    let h = taken-within (l .loop .inv) (n .list-next .ensures) in
     search needs
 
 add-packets : tie.Need-add-packets Inv-loop μ-loop
@@ -50,35 +50,29 @@ add-packets c =
     let n = c .before .before .before .before in
     let l = n .before .before .before .before in
     let a = l .before .before .before in
-    let h = counted-within _ _ _ _ _ _ _ _ (l .loop .inv) (λ i. l .before .before .shared-slice-known .given i .fits) (a .pre .1) _ _ _ _ _ (n .list-next .ensures) in
+    let h = counted-within (l .loop .inv) (n .list-next .ensures) in
     search needs
 
 loop-less : tie.Need-loop-less Inv-loop μ-loop
 loop-less c =
     let n = c .before .before .before .before .before in
-    let l = n .before .before .before .before in
-    let a = l .before .before .before in
-    let some = taken-some _ _ _ _ _ _ _ _ (l .loop .inv) (λ i. l .before .before .shared-slice-known .given i .fits) (a .pre .1) _ _ _ _ _ (n .list-next .ensures) (omega arith) in
-    let most = taken-within _ _ _ _ _ _ _ _ (l .loop .inv) (λ i. l .before .before .shared-slice-known .given i .fits) (a .pre .1) _ _ _ _ _ (n .list-next .ensures) in
-    omega arith
+    let g = n .before .before .before .before .loop .inv in
+    omega (arith, taken-some g (n .list-next .ensures) (omega arith), taken-within g (n .list-next .ensures))
 
 loop-again : tie.Need-loop-again Inv-loop μ-loop
 loop-again c =
     let n = c .before .before .before .before .before in
-    let l = n .before .before .before .before in
-    let a = l .before .before .before in
-    moved _ _ _ _ _ _ _ _ (l .loop .inv) (λ i. l .before .before .shared-slice-known .given i .fits) (a .pre .1) _ _ _ _ _ (n .list-next .ensures)
+    moved (n .before .before .before .before .loop .inv) (n .list-next .ensures)
 
 same-length : tie.Need-same-length Inv-loop μ-loop
 same-length c = c .before .loop .inv .sized
 
 returns : tie.Need-returns Inv-loop μ-loop
 returns c =
-    let l = c .before in
-    let a = l .before .before .before in
-    let e = ended _ _ _ _ _ _ _ _ (l .loop .inv) (omega arith) (a .pre .1) in
-    let room : l .loop .used ≤ length (l .loop .out) = omega (arith, e .0, a .pre .1, l .loop .inv .sized) in
-    (ap (λ (n : ℕ). answer done (n ∷ [])) (e .0), ((room, sym (length-take-le _ (l .loop .out) room)), (e .1, (e .2, e .3))))
+    let l = c .before .loop in
+    let e = ended (l .inv) (omega arith) in
+    let room : l .used ≤ length (l .out) = omega (arith, e .0, l .inv .room, l .inv .sized) in
+    (ap (λ (n : ℕ). answer done (n ∷ [])) (e .0), ((room, sym (length-take-le _ (l .out) room)), (e .1, (e .2, e .3))))
 
 pub list-all-spec : {M : Type 1} → statement M
 list-all-spec =
