@@ -14,8 +14,8 @@ use Rattle.checks.proofs.Bytes.{bytes-drop}
 use Rattle.checks.proofs.Output.{length-put, put-none, put-put}
 use Rattle.serial.specs.declared.receiver.Receiver.{Receiver}
 use Rattle.serial.specs.Consistency.{Consistent}
-use Rattle.serial.specs.Run.{outsOf, runOf}
-use Rattle.listing.specs.Text.{heard, linesOf, packetsOf}
+use Rattle.serial.specs.Run.{heard, outsOf, packetsOf, runOf}
+use Rattle.listing.specs.Text.{linesOf}
 use Rattle.listing.specs.Turn.{nextHeard, nextTaken}
 use Rattle.listing.proofs.Said.{Said}
 use Rattle.listing.proofs.TextMade.{lines-least}

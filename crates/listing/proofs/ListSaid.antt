@@ -1,18 +1,20 @@
 -- What `list` says, by the definitions' tests: the whole input listed, no room, or an inconsistent state. Assumes nothing.
 use Prim.Native.Nat.{ℕ}
-use mathlib.Core.Path.{_≡_}
-use mathlib.Core.Bool.{true, false}
+use mathlib.Core.Path.{_≡_, refl}
+use mathlib.Core.Bool.{Bool, true, false, cond, _&&_}
 use mathlib.Core.List.{List, [], _∷_}
+use native.Mathlib.Omega.{arith}
 use lib.ListN.{length}
-use Rattle.checks.specs.Numbers.{answer, done}
+use Rattle.checks.specs.Numbers.{answer, done, inconsistent, shortOutput}
 use Rattle.checks.specs.Output.{atStart}
+use Rattle.checks.proofs.Numbers.{same-number}
 use Rattle.serial.specs.declared.receiver.Receiver.{Receiver}
 use Rattle.serial.specs.Receiver.{consistentOf, freshOf}
-use Rattle.serial.specs.Run.{runOf}
+use Rattle.serial.specs.Run.{heard, runOf}
 use Rattle.listing.specs.declared.lines.Lines.{Lines}
-use Rattle.listing.specs.declared.lines.Lines.the-variants.{Inconsistent, ShortOutput}
+use Rattle.listing.specs.declared.lines.Lines.the-variants.{Done, Inconsistent, ShortOutput}
 use Rattle.listing.specs.Listing.{Within, linesAnswer, listAnswer, listed, roomy, stateAfter}
-use Rattle.listing.specs.Text.{heard, linesOf}
+use Rattle.listing.specs.Text.{linesOf}
 
 -- the answer, the packets, the state and the output
 abbrev pub Says : List ℕ → Receiver → List ℕ → Lines → ℕ → Receiver → List ℕ → Type 0
@@ -37,3 +39,15 @@ module _ (input : List ℕ) (s : Receiver) (out : List ℕ) where
   pub inconsistent-said : (state : Receiver) → consistentOf s ≡ false → state ≡ freshOf → Says input s out Inconsistent 0 state out
   unfolding listAnswer listed stateAfter linesOf
   inconsistent-said state c e = (simp c, (tt, (simp c, (simp c e, simp c))))
+
+-- and what a caller that was answered done knows: all of the input was fed, and all of its packets are listed
+pub done-all : (input : List ℕ) (room : ℕ) (s : Receiver) (n : ℕ) → linesAnswer (Done n) ≡ listAnswer input room s
+    → (stateAfter input room s ≡ runOf s input) × (listed input room s ≡ heard s input)
+unfolding listAnswer listed stateAfter
+done-all input room s n e = go (consistentOf s) (roomy (length input) room) (same-number e)
+  where
+    go : (c r : Bool) → done ≡ cond c (cond r (answer done (length (linesOf (heard s input)) ∷ [])) (answer shortOutput [])) (answer inconsistent []) .number
+        → (cond c (cond r (runOf s input) s) freshOf ≡ runOf s input) × (cond (c && r) (heard s input) [] ≡ heard s input)
+    go true true k = (refl, refl)
+    go true false k = absurd (omega arith)
+    go false r k = absurd (omega arith)

@@ -18,11 +18,11 @@ use Rattle.serial.specs.declared.receiver.Stepped.{Stepped}
 use Rattle.serial.specs.Consistency.{Consistent}
 use Rattle.serial.specs.Frame.{escape, escapeEscaped, flag, flagEscaped}
 use Rattle.serial.specs.Receiver.{byteCountRow, checkRow, dataEscapedRow, dataRow, frameEndRow, frameSearchRow, handsOut, rowOf, serialRevisionRow, stepOf}
-use Rattle.serial.specs.Run.{emit, outsOf, packetIn}
+use Rattle.serial.specs.Run.{emit, outsOf, packetIn, packetsOf}
 use Rattle.serial.proofs.Consistent.{FitsAt, facts, row-of}
 use Rattle.serial.proofs.Keeps.{keeps}
 use Rattle.listing.specs.Laws.{TextFits}
-use Rattle.listing.specs.Text.{lineOf, linesOf, packetsOf}
+use Rattle.listing.specs.Text.{lineOf, linesOf}
 use Rattle.listing.proofs.TextMade.{line-length}
 
 -- the text in store: two bytes for each stored byte of a frame under way

@@ -14,9 +14,9 @@ use Rattle.serial.specs.declared.taker.Reason.{Reason}
 use Rattle.serial.specs.declared.taker.Reason.the-variants.{Packet}
 use Rattle.serial.specs.declared.taker.Taken.{Taken}
 use Rattle.serial.specs.Consistency.{Consistent}
-use Rattle.serial.specs.Run.{packetIn}
+use Rattle.serial.specs.Run.{heard, packetIn}
 use Rattle.serial.specs.Taker.{copiedOf, takenOf}
-use Rattle.listing.specs.Text.{heard, lineOf, linesOf}
+use Rattle.listing.specs.Text.{lineOf, linesOf}
 use Rattle.listing.specs.Turn.{handedOut, nextHeard, nextTaken}
 use Rattle.listing.proofs.TurnLaws.{lines-append, next-heard, next-packet}
 

@@ -1,43 +1,38 @@
 -- The text tells the packets: a line feed is no digit, so it ends a line; a digit's ASCII code tells the digit, and a byte's two digits tell the
 -- byte. Assumes nothing.
-use Prim.Native.Nat.{ℕ, suc, _+_, _/_, _%_, _≤_, _<_}
+use Prim.Native.Nat.{ℕ, suc, _/_, _%_, _≤_, _<_}
 use mathlib.Core.Path.{_≡_, _∙_, ap, ap₂, refl, sym}
 use mathlib.Core.Bool.{Bool, true, false}
 use mathlib.Core.List.{List, [], _∷_, _++_, append-assoc, head-eq-of-cons-eq, tail-eq-of-cons-eq}
 use native.Mathlib.Omega.{arith}
 use lib.Dec.{ltb}
 use lib.ListN.{length, length-append}
-use borrow.Author.Tests.{le-ltb, lt-ltb, ltb-false, ltb-true}
+use borrow.Author.Tests.{ltb-false, ltb-true}
 use Rattle.checks.specs.Laws.{Bytes}
 use Rattle.io.specs.Digits.{glyph}
 use Rattle.listing.specs.Laws.{TextTells}
 use Rattle.listing.specs.Text.{hexAll, lineFeed, linesOf}
+use Rattle.listing.proofs.TextMade.{letter, numeral}
 
 -- ---- a digit's code
-
-glyph-low : (d : ℕ) → d < 10 → glyph d ≡ 48 + d
-glyph-low d h = simp (lt-ltb d 10 h)
-
-glyph-high : (d : ℕ) → 10 ≤ d → glyph d ≡ 87 + d
-glyph-high d h = simp (le-ltb d 10 h)
 
 -- no digit is a line feed
 no-line-feed : (d : ℕ) → glyph d ≡ lineFeed → ⊥
 no-line-feed d h = go (ltb d 10) refl
   where
     go : (t : Bool) → ltb d 10 ≡ t → ⊥
-    go true e = omega (arith, glyph-low d (ltb-true d 10 e))
-    go false e = omega (arith, glyph-high d (ltb-false d 10 e))
+    go true e = omega (arith, numeral d (ltb-true d 10 e))
+    go false e = omega (arith, letter d (ltb-false d 10 e))
 
 -- no two digits have the same code
 glyph-tells : (a b : ℕ) → a < 16 → b < 16 → glyph a ≡ glyph b → a ≡ b
 glyph-tells a b ha hb h = go (ltb a 10) (ltb b 10) refl refl
   where
     go : (s t : Bool) → ltb a 10 ≡ s → ltb b 10 ≡ t → a ≡ b
-    go true true e f = omega (arith, glyph-low a (ltb-true a 10 e), glyph-low b (ltb-true b 10 f))
-    go true false e f = omega (arith, glyph-low a (ltb-true a 10 e), glyph-high b (ltb-false b 10 f))
-    go false true e f = omega (arith, glyph-high a (ltb-false a 10 e), glyph-low b (ltb-true b 10 f))
-    go false false e f = omega (arith, glyph-high a (ltb-false a 10 e), glyph-high b (ltb-false b 10 f))
+    go true true e f = omega (arith, numeral a (ltb-true a 10 e), numeral b (ltb-true b 10 f))
+    go true false e f = omega (arith, numeral a (ltb-true a 10 e), letter b (ltb-false b 10 f))
+    go false true e f = omega (arith, letter a (ltb-false a 10 e), numeral b (ltb-true b 10 f))
+    go false false e f = omega (arith, letter a (ltb-false a 10 e), letter b (ltb-false b 10 f))
 
 -- no two bytes have the same two digits
 byte-tells : (b c : ℕ) → b < 256 → c < 256 → glyph (b / 16) ≡ glyph (c / 16) → glyph (b % 16) ≡ glyph (c % 16) → b ≡ c

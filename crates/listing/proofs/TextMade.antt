@@ -1,10 +1,18 @@
--- The digits of a packet are those of each of its bytes, two for each; and the lengths of lines. Assumes nothing.
-use Prim.Native.Nat.{ℕ, _+_, _*_, _≤_}
+-- A digit's code by its two cases; the digits of a packet are those of each of its bytes, two for each; and the lengths of lines. Assumes nothing.
+use Prim.Native.Nat.{ℕ, _+_, _*_, _≤_, _<_}
 use mathlib.Core.Path.{_≡_, _∙_, ap, refl}
 use mathlib.Core.List.{List, [], _∷_, _++_}
 use native.Mathlib.Omega.{arith}
 use lib.ListN.{length, length-append}
+use borrow.Author.Tests.{le-ltb, lt-ltb}
+use Rattle.io.specs.Digits.{glyph}
 use Rattle.listing.specs.Text.{hexAll, hexOf, lineFeed, lineOf, linesOf}
+
+pub numeral : (d : ℕ) → d < 10 → 48 + d ≡ glyph d
+numeral d h = simp (lt-ltb d 10 h)
+
+pub letter : (d : ℕ) → 10 ≤ d → 87 + d ≡ glyph d
+letter d h = simp (le-ltb d 10 h)
 
 pub hex-none : hexAll [] ≡ []
 unfolding hexAll

@@ -3,53 +3,24 @@ use Prim.Native.Nat.{ℕ, _+_, _-_, _≤_}
 use mathlib.Core.Path.{_≡_, _∙_, ap, refl, subst, sym}
 use mathlib.Core.List.{List, [], _∷_, _++_, append-assoc}
 use native.Mathlib.Omega.{arith}
-use lib.ListN.{length, drop, length-drop}
-use lib.Seq.{length-take-le, take-length}
+use lib.ListN.{length, drop}
+use lib.Seq.{take-length}
 use Rattle.checks.specs.Laws.{Bytes}
 use Rattle.serial.specs.declared.receiver.Receiver.{Receiver}
-use Rattle.serial.specs.declared.receiver.Outcome.{Outcome}
-use Rattle.serial.specs.declared.receiver.Outcome.the-variants.{Nothing, Packet, Inconsistent}
 use Rattle.serial.specs.declared.taker.Reason.{Reason}
 use Rattle.serial.specs.declared.taker.Reason.the-variants.{Packet as PacketTaken, InputEnded, AllowanceSpent, ShortOutput, Inconsistent as InconsistentTaken}
 use Rattle.serial.specs.declared.taker.Taken.{Taken}
 use Rattle.serial.specs.Consistency.{Consistent}
 use Rattle.serial.specs.Cutting.{Call, called, handed}
-use Rattle.serial.specs.Receiver.{stepOf}
-use Rattle.serial.specs.Run.{emit, outsOf, packetIn, runOf}
+use Rattle.serial.specs.Run.{heard, outsOf, packetIn, packetsOf, runOf}
 use Rattle.serial.specs.Taker.{Fair, takeFrom, takenOf}
 use Rattle.serial.proofs.Cutting.{goes-on, kept, state-goes-on, takes-one, within}
-use Rattle.serial.proofs.Run.{outs-append}
-use Rattle.serial.proofs.TakerLaws.{took}
-use Rattle.listing.specs.Text.{heard, lineOf, linesOf, packetsOf}
+use Rattle.serial.proofs.Run.{any-place, packets-append}
+use Rattle.serial.proofs.TakerLaws.{packet-length, took}
+use Rattle.listing.specs.Text.{lineOf, linesOf}
 use Rattle.listing.specs.Turn.{handedOut, nextHeard, nextTaken}
 
--- ---- packets, without their places
-
-pub packets-append : (os ps : List (ℕ × List ℕ)) → packetsOf (os ++ ps) ≡ packetsOf os ++ packetsOf ps
-unfolding packetsOf
-packets-append [] ps = refl
-packets-append (o ∷ os) ps = ap (λ (rest : List (List ℕ)). o .1 ∷ rest) (packets-append os ps)
-
-emit-packets : (o : Outcome) (s : Receiver) (i j : ℕ) (os ps : List (ℕ × List ℕ)) → packetsOf os ≡ packetsOf ps
-    → packetsOf (emit o s i os) ≡ packetsOf (emit o s j ps)
-unfolding packetsOf
-emit-packets Nothing s i j os ps e = e
-emit-packets (Packet n) s i j os ps e = ap (λ (rest : List (List ℕ)). packetIn n s ∷ rest) e
-emit-packets Inconsistent s i j os ps e = e
-
--- they don't depend on where the count of places begins
-pub any-place : (i j : ℕ) (s : Receiver) (bytes : List ℕ) → packetsOf (outsOf i s bytes) ≡ packetsOf (outsOf j s bytes)
-unfolding outsOf
-any-place i j s [] = refl
-any-place i j s (b ∷ bs) =
-    emit-packets (stepOf b s .outcome) (stepOf b s .state) i j _ _ (any-place (i + 1) (j + 1) (stepOf b s .state) bs)
-
-pub heard-append : (s : Receiver) (xs ys : List ℕ) → heard s (xs ++ ys) ≡ heard s xs ++ heard (runOf s xs) ys
-heard-append s xs ys =
-    ap packetsOf (outs-append 0 s xs ys)
-    ∙ packets-append (outsOf 0 s xs) _
-    ∙ ap (λ (rest : List (List ℕ)). heard s xs ++ rest) (any-place _ 0 (runOf s xs) ys)
-
+-- the lines of packets joined
 pub lines-append : (ps qs : List (List ℕ)) → linesOf (ps ++ qs) ≡ linesOf ps ++ linesOf qs
 unfolding linesOf
 lines-append [] qs = refl
@@ -107,8 +78,7 @@ module _ (s : Receiver) (input : List ℕ) (fits : Consistent s) where
   next-packet n h e =
       let from : nextTaken s input ≡ takeFrom input (length input) s 0 = simp (fits .fits) in
       let few : n ≤ 255 = subst Fair (sym (ap (λ (t : Taken). t .reason) from) ∙ e) (took input (length input) s fits h .0) in
-      let sized = next-kept h .sized in
-      (few, length-take-le n (drop 2 (nextTaken s input .state .stored)) (omega (arith, length-drop 2 (nextTaken s input .state .stored))))
+      (few, packet-length (nextTaken s input .state) n (next-kept h .sized) few)
 
 -- where there is a byte it takes one
 pub next-some : (s : Receiver) (input : List ℕ) → Consistent s → 1 ≤ length input → 1 ≤ nextTaken s input .taken

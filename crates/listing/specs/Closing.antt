@@ -1,10 +1,13 @@
--- The closing line: `end: bytes N packets M` (document 01, 'Program'). Assumes nothing.
+-- The closing line, `end: bytes N packets M`, and all that is written for an input (document 01, 'Program'). Assumes nothing.
 use Prim.Native.Nat.{ℕ, zero, suc, _/_, _%_}
 use mathlib.Core.Bool.{cond}
 use mathlib.Core.List.{List, [], _∷_, _++_}
 use lib.Dec.{ltb}
+use lib.ListN.{length}
 use Rattle.io.specs.Digits.{glyph}
-use Rattle.listing.specs.Text.{lineFeed}
+use Rattle.serial.specs.Receiver.{freshOf}
+use Rattle.serial.specs.Run.{heard}
+use Rattle.listing.specs.Text.{lineFeed, linesOf}
 
 -- a number's decimal digits, the highest first and at most k of them, without leading zeros
 unfoldable pub digitsOf : ℕ → ℕ → List ℕ
@@ -23,5 +26,10 @@ endBytes = 0x65 ∷ 0x6e ∷ 0x64 ∷ 0x3a ∷ 0x20 ∷ 0x62 ∷ 0x79 ∷ 0x74 �
 abbrev pub packetsWord : List ℕ
 packetsWord = 0x20 ∷ 0x70 ∷ 0x61 ∷ 0x63 ∷ 0x6b ∷ 0x65 ∷ 0x74 ∷ 0x73 ∷ 0x20 ∷ []
 
+-- the line
 abbrev pub closingLine : ℕ → ℕ → List ℕ
 closingLine bytes packets = endBytes ++ (decimal bytes ++ (packetsWord ++ (decimal packets ++ (lineFeed ∷ []))))
+
+-- for a whole input: each packet's line, and then the closing line
+abbrev pub outputFor : List ℕ → List ℕ
+outputFor input = linesOf (heard freshOf input) ++ closingLine (length input) (length (heard freshOf input))

@@ -2,14 +2,12 @@
 -- `proofs/Computed.antt`. Assumes nothing.
 use Prim.Native.Nat.{ℕ}
 use mathlib.Core.Path.{_≡_}
-use mathlib.Core.List.{List, [], _∷_}
-use Rattle.serial.specs.Receiver.{freshOf}
-use Rattle.listing.specs.Closing.{closingLine}
-use Rattle.listing.specs.Text.{heard, linesOf}
+use mathlib.Core.List.{List, [], _∷_, _++_}
+use Rattle.listing.specs.Closing.{closingLine, outputFor}
 
 -- case A's frame, of 12 bytes
-abbrev pub line : List ℕ
-line = 0x7e ∷ 0x01 ∷ 0x05 ∷ 0x01 ∷ 0x0a ∷ 0x09 ∷ 0xc8 ∷ 0x7d ∷ 0x5e ∷ 0x2d ∷ 0xba ∷ 0x7e ∷ []
+abbrev pub caseAFrame : List ℕ
+caseAFrame = 0x7e ∷ 0x01 ∷ 0x05 ∷ 0x01 ∷ 0x0a ∷ 0x09 ∷ 0xc8 ∷ 0x7d ∷ 0x5e ∷ 0x2d ∷ 0xba ∷ 0x7e ∷ []
 
 -- `010a09c87e` and a line feed, in ASCII
 abbrev pub packetLine : List ℕ
@@ -22,7 +20,7 @@ lastLine =
     ∷ 0x70 ∷ 0x61 ∷ 0x63 ∷ 0x6b ∷ 0x65 ∷ 0x74 ∷ 0x73 ∷ 0x20 ∷ 0x31 ∷ 0x0a ∷ []
 
 abbrev pub CaseAWritten : Type 0
-CaseAWritten = (linesOf (heard freshOf line) ≡ packetLine) × (closingLine 12 1 ≡ lastLine)
+CaseAWritten = outputFor caseAFrame ≡ packetLine ++ lastLine
 
 -- a zero is a digit, and so is each of a number's zeros; the largest number of 64 bits is written whole
 abbrev pub LargestWritten : Type 0

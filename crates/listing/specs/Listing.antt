@@ -8,10 +8,10 @@ use Rattle.checks.specs.Numbers.{Answer, answer, done, inconsistent, shortOutpu
 use Rattle.io.specs.Counts.{Counts}
 use Rattle.serial.specs.declared.receiver.Receiver.{Receiver}
 use Rattle.serial.specs.Receiver.{consistentOf, freshOf}
-use Rattle.serial.specs.Run.{runOf}
+use Rattle.serial.specs.Run.{heard, runOf}
 use Rattle.listing.specs.declared.lines.Lines.{Lines}
 use Rattle.listing.specs.declared.lines.Lines.the-variants.{Done, ShortOutput, Inconsistent}
-use Rattle.listing.specs.Text.{heard, linesOf}
+use Rattle.listing.specs.Text.{linesOf}
 
 -- the answer in document 01's numbers; the value is the length of the text
 abbrev pub linesAnswer : Lines → Answer

@@ -2,8 +2,6 @@
 use Prim.Native.Nat.{ℕ, _/_, _%_}
 use mathlib.Core.List.{List, [], _∷_, _++_}
 use Rattle.io.specs.Digits.{glyph}
-use Rattle.serial.specs.declared.receiver.Receiver.{Receiver}
-use Rattle.serial.specs.Run.{outsOf}
 
 -- the line feed that ends a line
 abbrev pub lineFeed : ℕ
@@ -26,12 +24,3 @@ lineOf packet = hexAll packet ++ (lineFeed ∷ [])
 unfoldable pub linesOf : List (List ℕ) → List ℕ
 linesOf [] = []
 linesOf (p ∷ ps) = lineOf p ++ linesOf ps
-
--- the packets without their places
-unfoldable pub packetsOf : List (ℕ × List ℕ) → List (List ℕ)
-packetsOf [] = []
-packetsOf (o ∷ os) = o .1 ∷ packetsOf os
-
--- the packets that bytes hand out, from a receiver's state on
-abbrev pub heard : Receiver → List ℕ → List (List ℕ)
-heard s bytes = packetsOf (outsOf 0 s bytes)

@@ -91,7 +91,7 @@ fair (b ∷ bs) (suc allowance) s n c h =
     (fair bs allowance (stepOf b s .state) (n + 1) (keeps s b c (h 0)) (λ i. h (suc i)))
 
 -- a handed-out packet has as many bytes as is said
-packet-length : (s : Receiver) (n : ℕ) → length (s .stored) ≡ 259 → n ≤ 255 → length (packetIn n s) ≡ n
+pub packet-length : (s : Receiver) (n : ℕ) → length (s .stored) ≡ 259 → n ≤ 255 → length (packetIn n s) ≡ n
 packet-length s n sized few = length-take-le n (drop 2 (s .stored)) (omega (arith, length-drop 2 (s .stored)))
 
 after-answer : (o : Outcome) (s : Receiver) (n i : ℕ) (more : Taken) (outs : List (ℕ × List ℕ)) → length (s .stored) ≡ 259 → FairOutcome o

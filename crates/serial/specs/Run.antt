@@ -26,3 +26,12 @@ emit Inconsistent s i rest = rest
 unfoldable pub outsOf : ℕ → Receiver → List ℕ → List (ℕ × List ℕ)
 outsOf i s [] = []
 outsOf i s (b ∷ bs) = emit (stepOf b s .outcome) (stepOf b s .state) i (outsOf (i + 1) (stepOf b s .state) bs)
+
+-- packets without their places
+unfoldable pub packetsOf : List (ℕ × List ℕ) → List (List ℕ)
+packetsOf [] = []
+packetsOf (o ∷ os) = o .1 ∷ packetsOf os
+
+-- the packets that the bytes hand out
+abbrev pub heard : Receiver → List ℕ → List (List ℕ)
+heard s bytes = packetsOf (outsOf 0 s bytes)

@@ -1,17 +1,8 @@
 -- `listing::hex::digit` meets its contract: its test is the definition's. Assumes nothing.
-use Prim.Native.Nat.{ℕ, _+_, _≤_, _<_}
-use mathlib.Core.Path.{_≡_}
 use borrow.Author.Needs.{needs}
-use borrow.Author.Tests.{le-ltb, lt-ltb}
-use Rattle.io.specs.Digits.{glyph}
+use Rattle.listing.proofs.TextMade.{letter, numeral}
 use Rattle.listing.proofs.hex.digit.Statement.{statement}
 use Rattle.listing.proofs.hex.digit.Tie as tie
-
-numeral : (d : ℕ) → d < 10 → 48 + d ≡ glyph d
-numeral d h = simp (lt-ltb d 10 h)
-
-letter : (d : ℕ) → 10 ≤ d → 87 + d ≡ glyph d
-letter d h = simp (le-ltb d 10 h)
 
 add-result : tie.Need-add-result
 add-result c = search needs
