@@ -1,6 +1,9 @@
 // Reads a serial line's raw bytes from standard input to its end, and writes each packet as a line of lower-case hex, then a closing line. What each
 // read brings is listed and written before the next one, so that it can follow a live line. Which bytes are a packet, and every byte of the text,
 // `listing` decides.
+ghost use mathlib.Core.Path.{_≡_};
+ghost use Rattle.receive.specs.declared.Came.the-variants.{Failure};
+ghost use Rattle.receive.specs.Follow.{ListedOn, stoppedAs, totalOf};
 use libc::STDERR_FILENO;
 use libc::STDIN_FILENO;
 use libc::STDOUT_FILENO;
@@ -82,7 +85,9 @@ fn read_on(line: Line, input: &mut [u8], text: &mut [u8]) -> Line {
 }
 
 // The line as it is, with nothing more to read.
-fn stopped(line: Line, came: Came) -> Line {
+fn stopped(line: Line, came: Came) -> Line
+    ensures { λ r. ⌜ r ≡ stoppedAs came line ⌝ }
+{
     let receiver = line.receiver;
     Line {
         came,
@@ -92,8 +97,10 @@ fn stopped(line: Line, came: Came) -> Line {
     }
 }
 
-// Lists the bytes that came, and writes the text.
-fn list_on(line: Line, input: &[u8], text: &mut [u8]) -> Line {
+// Lists the bytes that came, from the receiver that the last ones left, and writes the text.
+fn list_on(line: Line, input: &[u8], text: &mut [u8]) -> Line
+    ensures { λ r. ⌜ ListedOn line (now (input .entry)) r ⌝ }
+{
     let receiver = line.receiver;
     let listed = listing::list(receiver, input, text);
     let answer = listed.answer;
@@ -119,7 +126,9 @@ fn list_on(line: Line, input: &[u8], text: &mut [u8]) -> Line {
 }
 
 // So many more, as far as 64 bits count.
-fn total(count: u64, more: usize) -> u64 {
+fn total(count: u64, more: usize) -> u64
+    ensures { λ r. ⌜ r ≡ totalOf count more ⌝ }
+{
     let more = more as u64;
     if u64::MAX - count < more {
         return u64::MAX;
@@ -127,7 +136,10 @@ fn total(count: u64, more: usize) -> u64 {
     count + more
 }
 
-fn refused(line: Line) -> Line {
+// What never comes, said and taken as a failure.
+fn refused(line: Line) -> Line
+    ensures { λ r. ⌜ r ≡ stoppedAs Failure line ⌝ }
+{
     complain(b"receive: the listing was refused\n");
     stopped(line, Came::Failure)
 }
