@@ -1,10 +1,8 @@
 // The calls `check` and `pec`: a list of bytes, its frame check and its PEC, or its PEC alone.
 ghost use Rattle.io.specs.Counts.{Counts};
 use crate::render;
+use crate::rooms::LONGEST;
 use crate::text;
-
-// The longest list that a vector may have.
-const LONGEST: usize = 600;
 
 // `check BYTES`, in one call (way 0) or in two, which part the bytes in the middle: FRAMECHECK PEC.
 pub(crate) fn check(line: &[u8], way: usize, out: &mut [u8]) -> usize {

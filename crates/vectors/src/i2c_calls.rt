@@ -1,12 +1,10 @@
 // The calls `i2c-encode` and `i2c-decode`.
 use crate::render;
 use crate::rooms;
+use crate::rooms::LONGEST;
 use crate::text;
 use i2c::Decoded;
 use i2c::Encoded;
-
-// The most bytes that a payload, an input or a lent output may have.
-const LONGEST: usize = 600;
 
 // `i2c-encode OWN DEST KIND PAYLOAD ROOM`: NUMBER LENGTH OUT.
 pub(crate) fn encode(line: &[u8], out: &mut [u8]) -> usize {
@@ -65,10 +63,7 @@ fn encoded(own: u8, dest: u8, pec: bool, payload: &[u8], lent: &mut [u8], out: &
 // The number of encode's answer and the length.
 fn written(answer: Encoded, out: &mut [u8]) -> usize {
     match answer {
-        Encoded::Done(length) => {
-            let end = render::word(out, 0, b"0 ");
-            render::decimal(out, end, length)
-        }
+        Encoded::Done(length) => render::done(out, 0, length),
         Encoded::BadAddress => render::word(out, 0, b"4 -"),
         Encoded::BadArgument => render::word(out, 0, b"3 -"),
     }

@@ -90,6 +90,12 @@ pub(crate) fn decimal(out: &mut [u8], at: usize, n: usize) -> usize {
     word(out, at, &digits[..count])
 }
 
+// Number 0, done, and a length.
+pub(crate) fn done(out: &mut [u8], at: usize, length: usize) -> usize {
+    let length_at = word(out, at, b"0 ");
+    decimal(out, length_at, length)
+}
+
 // Fills a lent output, so that a byte that was not written is known: the byte at place i becomes (160 + i) mod 256.
 pub(crate) fn fill(out: &mut [u8]) {
     let mut i = 0;

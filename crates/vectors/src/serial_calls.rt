@@ -2,18 +2,14 @@
 // form gives 0, which is no text's length.
 use crate::render;
 use crate::rooms;
+use crate::rooms::LONGEST;
+use crate::rooms::LONGEST_STREAM;
 use crate::states;
 use crate::text;
 use serial::Outcome;
 use serial::Reason;
 use serial::Receiver;
 use serial::Written;
-
-// The longest packet of a vector, and the longest output that one lends.
-const LONGEST: usize = 600;
-
-// The longest input of `take`.
-const INPUT: usize = 2048;
 
 // `frame PACKET ROOM`: NUMBER LENGTH OUT.
 pub(crate) fn frame(line: &[u8], out: &mut [u8]) -> usize {
@@ -43,7 +39,7 @@ fn framed(packet: &[u8], lent: &mut [u8], out: &mut [u8]) -> usize {
 // NUMBER LENGTH of the writer's answer.
 fn put_written(written: Written, out: &mut [u8]) -> usize {
     match written {
-        Written::Done(n) => done(n, out, 0),
+        Written::Done(n) => render::done(out, 0, n),
         Written::BadLength => render::word(out, 0, b"1 -"),
         Written::ShortOutput => render::word(out, 0, b"2 -"),
     }
@@ -87,7 +83,7 @@ fn put_consistent(consistent: bool, out: &mut [u8]) -> usize {
 fn put_outcome(outcome: Outcome, out: &mut [u8], place: usize) -> usize {
     match outcome {
         Outcome::Nothing => render::word(out, place, b"0 -"),
-        Outcome::Packet(n) => done(n, out, place),
+        Outcome::Packet(n) => render::done(out, place, n),
         Outcome::Inconsistent => render::word(out, place, b"9 -"),
     }
 }
@@ -98,7 +94,7 @@ pub(crate) fn take(line: &[u8], out: &mut [u8]) -> usize {
     if !parsed.ok {
         return 0;
     }
-    let mut input = [0u8; INPUT];
+    let mut input = [0u8; LONGEST_STREAM];
     let decoded = text::decode(text::field(line, 5), &mut input);
     if !decoded.ok {
         return 0;
@@ -156,10 +152,4 @@ fn put_reason(reason: Reason, out: &mut [u8]) -> usize {
         Reason::ShortOutput => render::word(out, 0, b"2 - -"),
         Reason::Inconsistent => render::word(out, 0, b"9 - -"),
     }
-}
-
-// Number 0 and a length.
-fn done(length: usize, out: &mut [u8], place: usize) -> usize {
-    let length_at = render::word(out, place, b"0 ");
-    render::decimal(out, length_at, length)
 }

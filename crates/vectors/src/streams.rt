@@ -2,19 +2,17 @@
 ghost use Prim.Native.Nat.{_≤_};
 use crate::packets;
 use crate::render;
+use crate::rooms::LONGEST_STREAM;
 use crate::states;
 use crate::text;
 use serial::Outcome;
 use serial::Reason;
 use serial::Receiver;
 
-// The longest stream.
-const LONGEST: usize = 2048;
-
 // `feed STREAM`: PACKETS STATE. The ways: 0 byte by byte; 1 in one call, and one more behind each packet; 2 a byte a call; 3 in pieces of 7
 // bytes with an allowance of 5, so that calls end in every way. A line whose stream is not of the form gives 0, which is no text's length.
 pub(crate) fn feed(line: &[u8], way: usize, out: &mut [u8]) -> usize {
-    let mut stream = [0u8; LONGEST];
+    let mut stream = [0u8; LONGEST_STREAM];
     let decoded = text::decode(text::field(line, 1), &mut stream);
     if !decoded.ok {
         return 0;
@@ -24,7 +22,7 @@ pub(crate) fn feed(line: &[u8], way: usize, out: &mut [u8]) -> usize {
     render::fill(&mut room);
     match way {
         0 => by_step(&stream[..count], out),
-        1 => by_take(&stream[..count], LONGEST, count, &mut room, out),
+        1 => by_take(&stream[..count], LONGEST_STREAM, count, &mut room, out),
         2 => by_take(&stream[..count], 1, 1, &mut room, out),
         _ => by_take(&stream[..count], 7, 5, &mut room, out),
     }

@@ -1,13 +1,11 @@
 // The calls `usb-header`, `usb-decode` and `usb-append`.
 use crate::render;
 use crate::rooms;
+use crate::rooms::LONGEST;
 use crate::text;
 use usb::Appended;
 use usb::Decoded;
 use usb::Headed;
-
-// The most bytes that a packet, an input or a lent output may have.
-const LONGEST: usize = 600;
 
 // `usb-header SIZE ROOM`: NUMBER OUT.
 pub(crate) fn header(line: &[u8], out: &mut [u8]) -> usize {
@@ -63,10 +61,7 @@ fn received(input: &[u8], out: &mut [u8]) -> usize {
 // The number of decode's answer and the packet's length.
 fn read(answer: Decoded, out: &mut [u8]) -> usize {
     match answer {
-        Decoded::Packet(length) => {
-            let end = render::word(out, 0, b"0 ");
-            render::decimal(out, end, length)
-        }
+        Decoded::Packet(length) => render::done(out, 0, length),
         Decoded::RxFailure => render::word(out, 0, b"7 -"),
     }
 }

@@ -1,15 +1,13 @@
 // The call `usb-walk`: each packet of a transfer from a place on.
 use crate::packets;
 use crate::render;
+use crate::rooms::LONGEST_STREAM;
 use crate::text;
 use usb::Walked;
 
-// The longest transfer.
-const LONGEST: usize = 2048;
-
 // `usb-walk TRANSFER PLACE`: PACKETS NUMBER PLACE.
 pub(crate) fn walk(line: &[u8], out: &mut [u8]) -> usize {
-    let mut room = [0u8; LONGEST];
+    let mut room = [0u8; LONGEST_STREAM];
     let decoded = text::decode(text::field(line, 1), &mut room);
     if !decoded.ok {
         return 0;
