@@ -1,16 +1,18 @@
--- Laws of the frame check's register: it keeps xor, it stays below 65,536, its bits enter low first, and a step by the table.
+-- Laws of the frame check's register: it keeps xor, it stays below 65,536, its bits enter low first, and a byte's step by the table.
 -- Assumes nothing.
 use Prim.Native.Nat.{ℕ, zero, suc, _*_, _/_, _%_, _^_, _<_}
-use mathlib.Core.Path.{_≡_, _∙_, ap, ap₂, sym}
+use mathlib.Core.Path.{_≡_, _∙_, ap, ap₂, subst, sym}
+use mathlib.Core.List.{List}
 use native.Mathlib.Nat.{div-div-eq-div-mul, div-eq-of-lt, mod-lt, mul-one, zero-mul}
 use native.Mathlib.Omega.{arith}
 use lib.Bits.{bitXor, shifted-even, shifted-half, xor-lt, xor-shifted, xor-shr, xor-zero-r}
 use lib.Pow.{pow-pos, split}
 use Rattle.checks.specs.Register.{bitStep, bitSteps, byteStep}
-use Rattle.checks.specs.FrameCheck.{frameRegister}
-use Rattle.checks.specs.Laws.{StaysBelow, LinearOverXor, Differences}
+use Rattle.checks.specs.FrameCheck.{frameCheckFrom, frameNext, frameRegister, frameTable, StepByTable}
+use Rattle.checks.specs.Laws.{Bytes, StaysBelow, LinearOverXor, Differences}
 use Rattle.checks.specs.BitOrder.{bitEnters, bitsEnter, highFirst, InOrder, lowFirst, NotInOrder}
 use Rattle.checks.proofs.Register.{KeepsXor, differences, in-order, leavings, left, linear, stays-below, steps-xor}
+use Rattle.checks.proofs.Table.{entry}
 use Rattle.checks.proofs.Xor.{half-xor, low-bit, low-xor}
 
 keeps-xor : KeepsXor frameRegister
@@ -28,6 +30,10 @@ step-below r h = xor-lt 16 (r / 2) (r % 2 * frameRegister .polynomial) (omega ar
 
 pub frame-below : StaysBelow 65536 frameRegister
 frame-below = stays-below frameRegister 16 (omega arith) step-below
+
+-- so 16 bits hold what a loop in wider ones ends with
+pub frame-fits : (bytes : List ℕ) (r last : ℕ) → r < 65536 → Bytes bytes → last ≡ frameCheckFrom r bytes → last < 65536
+frame-fits bytes r last h k e = subst (λ (x : ℕ). x < 65536) (sym e) (frame-below r bytes h k)
 
 leave-low-first : (b : ℕ) → leavings frameRegister 8 b ≡ lowFirst b
 leave-low-first b = simp div-div-eq-div-mul
@@ -62,10 +68,16 @@ low-bits n x =
     ∙ steps-xor frameRegister keeps-xor n (x / 2 ^ n * 2 ^ n) (x % 2 ^ n)
     ∙ ap (λ (y : ℕ). bitXor y (bitSteps frameRegister n (x % 2 ^ n))) (steps-even n (x / 2 ^ n))
 
--- a byte's step, as a table of 256 entries makes it
-pub by-table : (r b : ℕ) → b < 256 → bitXor (r / 256) (bitSteps frameRegister 8 (bitXor r b % 256)) ≡ byteStep frameRegister r b
+-- a byte's step: the entry, by the table's rule, and the register's high byte
+pub by-table : StepByTable
 unfolding byteStep
 by-table r b h =
+    let low = bitXor r b % 256 in
     sym (low-bits 8 (bitXor r b)
-    ∙ ap (λ (y : ℕ). bitXor y (bitSteps frameRegister 8 (bitXor r b % 256)))
-    (xor-shr r b 8 ∙ ap (bitXor (r / 256)) (div-eq-of-lt h) ∙ xor-zero-r (r / 256)))
+    ∙ ap₂ bitXor
+    (xor-shr r b 8 ∙ ap (bitXor (r / 256)) (div-eq-of-lt h) ∙ xor-zero-r (r / 256))
+    (sym (entry (bitSteps frameRegister 8) 256 low (omega arith))))
+
+-- and so by a table that a function has fetched
+pub by-fetched-table : (table : List ℕ) (r b : ℕ) → table ≡ frameTable → b < 256 → frameNext table r b ≡ byteStep frameRegister r b
+by-fetched-table table r b e h = ap (λ (t : List ℕ). frameNext t r b) e ∙ by-table r b h

@@ -78,17 +78,17 @@ escaped-all-bytes [] h = bytes-none
 escaped-all-bytes (b ∷ bs) h =
     bytes-append (escaped b) (escapedAll bs) (escaped-bytes b (h 0)) (escaped-all-bytes bs (λ (i : ℕ). h (suc i)))
 
--- the check of a packet that is sent has 16 bits
-pub check-below : (packet : List ℕ) → Sendable packet → frameCheck (covered packet) < 65536
-check-below packet sent =
+-- the check has 16 bits
+pub check-below : (packet : List ℕ) → Bytes packet → length packet ≤ 255 → frameCheck (covered packet) < 65536
+check-below packet bytes most =
     frame-below (frameRegister .start) (covered packet) (omega arith)
-    (bytes-cons revision (length packet ∷ packet) (omega arith) (bytes-cons (length packet) packet (omega (arith, sent .2)) (sent .0)))
+    (bytes-cons revision (length packet ∷ packet) (omega arith) (bytes-cons (length packet) packet (omega arith) bytes))
 
 pub frame-bytes : FrameBytes
 unfolding frame
 frame-bytes packet sent =
     let check = frameCheck (covered packet) in
-    let h : check < 65536 = check-below packet sent in
+    let h : check < 65536 = check-below packet (sent .0) (sent .2) in
     let count : length packet < 256 = omega (arith, sent .2) in
     bytes-append (flag ∷ revision ∷ length packet ∷ []) (escapedAll packet ++ (checkBytes packet ++ (flag ∷ [])))
     (bytes-each (flag ∷ revision ∷ length packet ∷ []) (omega arith, (omega arith, (count, tt))))

@@ -13,4 +13,5 @@ pub mod Trace
 pub mod Converse
 pub mod TakerLaws
 pub mod Cutting
+pub mod HandsBack
 pub mod OneResult

@@ -17,14 +17,13 @@ use Rattle.serial.specs.declared.receiver.Receiver.{Receiver}
 use Rattle.serial.specs.declared.receiver.Outcome.{Outcome}
 use Rattle.serial.specs.declared.receiver.Outcome.the-variants.{Nothing, Packet, Inconsistent}
 use Rattle.serial.specs.declared.receiver.Stepped.{Stepped}
-use Rattle.serial.specs.declared.taker.Reason.{Reason}
 use Rattle.serial.specs.declared.taker.Reason.the-variants.{InputEnded, AllowanceSpent, ShortOutput, Inconsistent as InconsistentTaken}
 use Rattle.serial.specs.declared.taker.Taken.{Taken}
 use Rattle.serial.specs.Answers.{firstLength, reasonAnswer, takerAnswer}
 use Rattle.serial.specs.Consistency.{Consistent}
 use Rattle.serial.specs.Receiver.{consistentOf, freshOf, handsOut, rowOf, stepOf}
 use Rattle.serial.specs.Run.{emit, outsOf, packetIn}
-use Rattle.serial.specs.Taker.{Fair, afterStep, copiedOf, stop, takeFrom, takenOf}
+use Rattle.serial.specs.Taker.{Fair, afterStep, copiedOf, outcomeOf, stop, takeFrom, takenOf}
 use Rattle.serial.proofs.Consistent.{facts, row-of}
 use Rattle.serial.proofs.Keeps.{keeps}
 
@@ -120,12 +119,29 @@ Took input allowance s t = Fair (t .reason) × (reasonAnswer (t .reason) ≡ ans
 pub took : (input : List ℕ) (allowance : ℕ) (s : Receiver) → Consistent s → Bytes input → Took input allowance s (takeFrom input allowance s 0)
 took input allowance s c h = (fair input allowance s 0 c h, first-answer input allowance s 0 0 c h)
 
-pub taken-from : (input : List ℕ) (allowance : ℕ) (s u : Receiver) (t : Taken) → t ≡ takeFrom input allowance s 0 → s ≡ u
-    → Took input allowance s (takeFrom input allowance s 0) → (t ≡ takeFrom input allowance u 0) × Took input allowance u t
-taken-from input allowance s u t e f h = (
-  e ∙ ap (λ (x : Receiver). takeFrom input allowance x 0) f,
-  subst (λ (x : Receiver). Took input allowance x t) f (subst (Took input allowance s) (sym e) h),
-)
+-- with the definition's result
+abbrev pub TakenFrom : List ℕ → ℕ → Receiver → Taken → Type 0
+TakenFrom input allowance s t = (t ≡ takeFrom input allowance s 0) × Took input allowance s t
+
+pub taken-from : (input : List ℕ) (allowance : ℕ) (s : Receiver) (t : Taken) → t ≡ takeFrom input allowance s 0
+    → Took input allowance s (takeFrom input allowance s 0) → TakenFrom input allowance s t
+taken-from input allowance s t e h = (e, subst (Took input allowance s) (sym e) h)
+
+-- ---- taking one byte is a step
+
+-- the last step made, of what was taken
+abbrev pub stepped : Taken → Stepped
+stepped t = record { outcome = outcomeOf (t .reason); state = t .state }
+
+last-step : (o : Outcome) (s : Receiver) → Fair (afterStep o s 1 (stop InputEnded 1 s) .reason)
+    → stepped (afterStep o s 1 (stop InputEnded 1 s)) ≡ record { outcome = o; state = s }
+last-step Nothing s h = refl
+last-step (Packet n) s h = refl
+last-step Inconsistent s h = absurd h
+
+pub one-taken : (b : ℕ) (s : Receiver) (t : Taken) → t ≡ takeFrom (b ∷ []) 1 s 0 → Fair (t .reason) → stepped t ≡ stepOf b s
+unfolding takeFrom
+one-taken b s t e h = ap stepped e ∙ last-step (stepOf b s .outcome) (stepOf b s .state) (subst (λ (x : Taken). Fair (x .reason)) e h)
 
 -- ---- what the taker says
 
@@ -136,13 +152,13 @@ Said input allowance s out t left =
     × ((left ≡ copiedOf (t .reason) (t .state) out) × (reasonAnswer (t .reason) ≡ takerAnswer input allowance (length out) s))
 
 module _ (input : List ℕ) (allowance : ℕ) (s : Receiver) (out : List ℕ) (t : Taken) where
-  -- of bytes taken, for this reason
-  pub taken-said : (r : Reason) (left : List ℕ) → consistentOf s ≡ true → 255 ≤ length out
-      → (t ≡ takeFrom input allowance s 0) × Took input allowance s t → t .reason ≡ r → left ≡ copiedOf r (t .state) out → Said input allowance s out t left
+  -- of bytes taken
+  pub taken-said : (left : List ℕ) → consistentOf s ≡ true → 255 ≤ length out → TakenFrom input allowance s t → left ≡ copiedOf (t .reason) (t .state) out
+      → Said input allowance s out t left
   unfolding takenOf
-  taken-said r left c room e f g = (
+  taken-said left c room e g = (
     simp (c, le-ltb (length out) 255 room) (e .0),
-    (g ∙ ap (λ (q : Reason). copiedOf q (t .state) out) (sym f), simp (c, le-ltb (length out) 255 room) (e .1 .1)),
+    (g, simp (c, le-ltb (length out) 255 room) (e .1 .1)),
   )
 
   -- too little room

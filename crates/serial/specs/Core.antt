@@ -6,6 +6,8 @@ use Rattle.serial.specs.declared.receiver.Receiver.{Receiver}
 use Rattle.serial.specs.declared.receiver.Stepped.{Stepped}
 use Rattle.serial.specs.declared.rows.Head.{Head}
 use Rattle.serial.specs.declared.rows.Moved.{Moved}
+use Rattle.serial.specs.declared.taker.Stopped.{Stopped}
+use Rattle.serial.specs.declared.taker.Taken.{Taken}
 
 -- the state of a head and stored bytes
 abbrev pub held : Head → List ℕ → Receiver
@@ -14,6 +16,10 @@ held h xs = record { position = h .position; count = h .count; len = h .len; sto
 -- a step's result of what the core gives and the stored bytes after it
 abbrev pub heldStep : Moved → List ℕ → Stepped
 heldStep m xs = record { outcome = m .outcome; state = held (m .head) xs }
+
+-- the taker's result, likewise
+abbrev pub heldTaken : Stopped → List ℕ → Taken
+heldTaken t xs = record { reason = t .reason; taken = t .taken; state = held (t .head) xs }
 
 -- a head is led to another as a row says, whatever is stored
 abbrev pub Leads : (Receiver → Receiver) → Head → Head → Type 0

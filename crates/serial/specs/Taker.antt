@@ -22,6 +22,14 @@ afterStep Nothing s n more = more
 afterStep (Packet k) s n more = stop (PacketTaken k) n s
 afterStep Inconsistent s n more = stop InconsistentTaken n s
 
+-- what the last step gave: a packet, or nothing, where none was refused
+abbrev pub outcomeOf : Reason → Outcome
+outcomeOf (PacketTaken n) = Packet n
+outcomeOf InputEnded = Nothing
+outcomeOf AllowanceSpent = Nothing
+outcomeOf ShortOutput = Nothing
+outcomeOf InconsistentTaken = Nothing
+
 -- over the bytes that are left, with the allowance that is left, when n steps are made
 unfoldable pub takeFrom : List ℕ → ℕ → Receiver → ℕ → Taken
 takeFrom [] allowance s n = stop InputEnded n s

@@ -5,9 +5,9 @@ ghost use mathlib.Core.Bool.{cond, _||_};
 ghost use mathlib.Core.List.{[], _∷_};
 ghost use lib.Dec.{eqb};
 ghost use lib.ListN.{length};
-ghost use Rattle.checks.specs.FrameCheck.{frameCheck};
+ghost use Rattle.checks.specs.FrameCheck.{frameCheckFrom, frameTable};
 ghost use Rattle.serial.specs.Answers.{writerAnswer, writtenAnswer};
-ghost use Rattle.serial.specs.Frame.{flag, escape, escaped, escapedAll, escapes, covered, frame};
+ghost use Rattle.serial.specs.Frame.{flag, escape, escaped, escapedAll, escapes, frame};
 ghost use Rattle.checks.specs.Output.{atStart, putAt};
 ghost use Rattle.serial.specs.Writer.{outputOf};
 use crate::wire::ESCAPE_ESCAPED;
@@ -69,28 +69,29 @@ fn write_byte(b: u8, out: &mut [u8], place: usize) -> usize
     place + 1
 }
 
-// The packet, escaped, from `start` on. It returns the place behind it.
-fn write_escaped(packet: &[u8], out: &mut [u8], start: usize) -> usize
-    requires { ⌜ start + length (escapedAll (now packet)) ≤ length (now out) ⌝ }
-    ensures { λ r. ⌜ r ≡ start + length (escapedAll (now (packet .entry))) ⌝ }
-    ensures { λ _. ⌜ now (out .exit) ≡ putAt start (escapedAll (now (packet .entry))) (now (out .entry)) ⌝ }
-{
-    let mut place = start;
-    let mut i = 0;
-    while i < packet.len() {
-        place = write_byte(packet[i], out, place);
-        i += 1;
-    }
-    place
+// How far the writer is: the place behind what it has written, and the check's register after it.
+struct Progress {
+    place: usize,
+    register: u32,
 }
 
-// The frame check of the revision, the count and the packet.
-fn check_of(packet: &[u8]) -> u16
-    requires { ⌜ length (now packet) ≤ 255 ⌝ }
-    ensures { λ r. ⌜ r ≡ frameCheck (covered (now (packet .entry))) ⌝ }
+// The packet, escaped, from a place on, with the check kept by the table on the way. It returns how far that brings the writer.
+fn write_escaped(packet: &[u8], table: &[u16], out: &mut [u8], from: Progress) -> Progress
+    requires { ⌜ (now table ≡ frameTable) × (from .place + length (escapedAll (now packet)) ≤ length (now out)) ⌝ }
+    ensures { λ r. ⌜ r .place ≡ from .place + length (escapedAll (now (packet .entry))) ⌝ }
+    ensures { λ r. ⌜ r .register ≡ frameCheckFrom (from .register) (now (packet .entry)) ⌝ }
+    ensures { λ _. ⌜ now (out .exit) ≡ putAt (from .place) (escapedAll (now (packet .entry))) (now (out .entry)) ⌝ }
 {
-    let start = [MCTP_SERIAL_REVISION, packet.len() as u8];
-    checks::frame_check_from(checks::frame_check(&start), packet)
+    let mut place = from.place;
+    let mut register = from.register;
+    let mut i = 0;
+    while i < packet.len() {
+        let b = packet[i];
+        place = write_byte(b, out, place);
+        register = checks::frame_next(table, register, b);
+        i += 1;
+    }
+    Progress { place, register }
 }
 
 // Three bytes from `place` on.
@@ -103,18 +104,25 @@ fn write_three(out: &mut [u8], place: usize, first: u8, second: u8, third: u8)
     out[place + 2] = third;
 }
 
-// The packet's frame at the output's start; the check's high byte comes first.
+// The packet's frame at the output's start. The check covers the revision, the count and the packet; its high byte comes first.
 fn write_frame(packet: &[u8], out: &mut [u8])
     requires { ⌜ (length (now packet) ≤ 255) × (length (frame (now packet)) ≤ length (now out)) ⌝ }
     ensures { λ _. ⌜ now (out .exit) ≡ atStart (frame (now (packet .entry))) (now (out .entry)) ⌝ }
 {
-    let check = check_of(packet);
+    let table = checks::frame_table();
     let count = packet.len() as u8;
+    let revised = checks::frame_next(&table, checks::FRAME_START as u32, MCTP_SERIAL_REVISION);
+    let counted = checks::frame_next(&table, revised, count);
     write_three(out, 0, FRAMING_FLAG, MCTP_SERIAL_REVISION, count);
-    let end = write_escaped(packet, out, 3);
-    let high = (check >> 8) as u8;
+    let opened = Progress {
+        place: 3,
+        register: counted,
+    };
+    let end = write_escaped(packet, &table, out, opened);
+    let check = end.register;
+    let high = (check / 256 % 256) as u8;
     let low = (check % 256) as u8;
-    write_three(out, end, high, low, FRAMING_FLAG);
+    write_three(out, end.place, high, low, FRAMING_FLAG);
 }
 
 // Writes the packet's frame at the output's start and answers its length. It refuses a packet under 5 or over 255 bytes (BadLength, number

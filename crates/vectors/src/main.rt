@@ -28,6 +28,7 @@ fn main() {
     replay(b"i2c-frames.txt", &mut room);
     replay(b"usb-transfers.txt", &mut room);
     replay(b"documents.txt", &mut room);
+    replay(b"rust-answers.txt", &mut room);
     // This list is wrong on purpose, so that the gate sees that a disagreement is found, and how it is printed.
     replay(b"wrong.txt", &mut room);
 }

@@ -1,20 +1,21 @@
 -- `checks::frame_check_from` meets its contract. The loop's invariant: the check of what is left, from the register on, is the check of the
--- whole. A turn is one byte step: the table's entry, by its rule, and the register's high byte. Assumes nothing.
-use Prim.Native.Nat.{ℕ, _-_, _/_, _%_, _≤_}
-use mathlib.Core.Path.{_≡_, _∙_, ap, refl, sym}
+-- whole. A turn is one byte step, by the table. The register is kept in 32 bits, and 16 hold it. Assumes nothing.
+use Prim.Native.Nat.{ℕ, _-_, _≤_}
+use mathlib.Core.Path.{_≡_, _∙_, refl, sym}
 use mathlib.Core.List.{List}
-use native.Mathlib.Nat.{lt-of-lt-of-le}
 use native.Mathlib.Omega.{arith}
-use lib.Bits.{bitXor}
 use lib.ListN.{length, drop, getD}
 use borrow.Author.Needs.{needs}
-use Rattle.checks.specs.Register.{bitSteps}
 use Rattle.checks.specs.FrameCheck.{frameRegister, frameCheckFrom}
-use Rattle.checks.proofs.Table.{entry}
 use Rattle.checks.proofs.Register.{check-end, check-next}
-use Rattle.checks.proofs.FrameCheck.{by-table}
+use Rattle.checks.proofs.FrameCheck.{by-fetched-table, frame-fits}
 use Rattle.checks.proofs.frame.frame_check_from.Statement.{statement}
 use Rattle.checks.proofs.frame.frame_check_from.Tie as tie
+
+-- with no bytes left, the register is the whole's
+at-end : (bytes : List ℕ) (register reg i : ℕ) → length bytes ≤ i → frameCheckFrom reg (drop i bytes) ≡ frameCheckFrom register bytes
+    → reg ≡ frameCheckFrom register bytes
+at-end bytes register reg i h inv = sym (check-end frameRegister bytes reg i h) ∙ inv
 
 abbrev Inv-loop : tie.InvT-loop
 Inv-loop register bytes table reg₀ i₀ reg i =
@@ -29,20 +30,14 @@ frame-table-requires c κs = search needs
 loop-holds : tie.Need-loop-holds Inv-loop μ-loop
 loop-holds c = (search needs, refl)
 
-shared-slice-read-low : tie.Need-shared-slice-read-low Inv-loop μ-loop
-shared-slice-read-low c = omega arith
+slice-aggregate-frame-next : tie.Need-slice-aggregate-frame-next Inv-loop μ-loop
+slice-aggregate-frame-next c = search needs
 
-cast-low : tie.Need-cast-low Inv-loop μ-loop
-cast-low c = record { fits = lt-of-lt-of-le (c .shared-slice-known2 .given _ .fits) (omega arith) }
+shared-slice-read-frame-next : tie.Need-shared-slice-read-frame-next Inv-loop μ-loop
+shared-slice-read-frame-next c = omega arith
 
-cast-reg : tie.Need-cast-reg Inv-loop μ-loop
-cast-reg c = omega arith
-
-mul-reg : tie.Need-mul-reg Inv-loop μ-loop
-mul-reg c = omega arith
-
-array-read-reg : tie.Need-array-read-reg Inv-loop μ-loop
-array-read-reg c = omega arith
+frame-next-requires : tie.Need-frame-next-requires Inv-loop μ-loop
+frame-next-requires c κs = search needs
 
 add-i : tie.Need-add-i Inv-loop μ-loop
 add-i c = omega arith
@@ -52,24 +47,26 @@ loop-less c = omega arith
 
 loop-again : tie.Need-loop-again Inv-loop μ-loop
 loop-again c =
-    let l = c .before .before in
-    let bytes = l .before .before .before .args .bytes .now in
-    let r = l .loop .reg in
-    let b = getD bytes (l .loop .i) 0 in
-    let low = bitXor r b % 256 in
-    let e =
-    ap (bitXor (r / 256))
-    (ap (λ (table : List ℕ). getD table low 0) (l .before .frame-table .ensures)
-    ∙ entry (bitSteps frameRegister 8) 256 low (omega arith))
-    ∙ by-table r b (c .shared-slice-known2 .given (l .loop .i) .fits)
-    in
-    (search needs, check-next frameRegister bytes r _ (l .loop .i) (omega arith) e ∙ l .loop .inv .1)
+    let l = c .before .before .before .before in
+    let a = l .before .before .before .args in
+    let b = getD (a .bytes .now) (l .loop .i) 0 in
+    let e = by-fetched-table _ (l .loop .reg) b (l .before .frame-table .ensures) (c .before .shared-slice-known2 .given (l .loop .i) .fits) in (
+      omega arith,
+      check-next frameRegister (a .bytes .now) (l .loop .reg) _ (l .loop .i) (omega arith) (c .frame-next .ensures ∙ e) ∙ l .loop .inv .1,
+    )
+
+cast-result : tie.Need-cast-result Inv-loop μ-loop
+cast-result c =
+    let l = c .before in
+    let a = l .before .before .before .args in
+    let e = at-end (a .bytes .now) (a .register) (l .loop .reg) (l .loop .i) (omega arith) (l .loop .inv .1) in
+    record { fits = frame-fits (a .bytes .now) (a .register) (l .loop .reg) (omega arith) (λ i. l .before .before .shared-slice-known .given i .fits) e }
 
 returns : tie.Need-returns Inv-loop μ-loop
 returns c =
     let l = c .before in
-    sym (check-end frameRegister (l .before .before .before .args .bytes .now) (l .loop .reg) (l .loop .i) (omega arith))
-    ∙ l .loop .inv .1
+    let a = l .before .before .before .args in
+    at-end (a .bytes .now) (a .register) (l .loop .reg) (l .loop .i) (omega arith) (l .loop .inv .1)
 
 pub frame-check-from-spec : {M : Type 1} → statement M
 frame-check-from-spec =
@@ -79,12 +76,11 @@ frame-check-from-spec =
     μ-loop
     frame-table-requires
     loop-holds
-    shared-slice-read-low
-    cast-low
-    cast-reg
-    mul-reg
-    array-read-reg
+    slice-aggregate-frame-next
+    shared-slice-read-frame-next
+    frame-next-requires
     add-i
     loop-less
     loop-again
+    cast-result
     returns)

@@ -1,16 +1,34 @@
--- `copy_packet` meets its contract: the part that is copied is the n stored bytes from place 2 on. Assumes nothing.
-use Prim.Native.Nat.{ℕ, _+_, _-_}
-use mathlib.Core.Path.{_≡_, _∙_, ap}
+-- `copy_packet` meets its contract: a packet's n bytes, at most 255, are the part of the stored bytes from place 2 on that is copied; for any other
+-- reason the output stays. Assumes nothing.
+use Prim.Native.Nat.{ℕ, _+_, _-_, _≤_}
+use mathlib.Core.Path.{_≡_, _∙_, ap, subst, sym}
+use mathlib.Core.List.{List}
 use native.Mathlib.Omega.{arith}
-use lib.ListN.{drop, take}
+use lib.ListN.{drop, length, take}
 use borrow.Author.Needs.{needs}
 use Rattle.checks.specs.Output.{atStart}
 use Rattle.checks.proofs.Output.{start-copied}
+use Rattle.serial.specs.declared.receiver.Receiver.{Receiver}
+use Rattle.serial.specs.declared.taker.Reason.{Reason}
+use Rattle.serial.specs.declared.taker.Reason.the-variants.{InputEnded, AllowanceSpent, ShortOutput, Inconsistent, Packet}
+use Rattle.serial.specs.Core.{held}
+use Rattle.serial.specs.Taker.{Fair, copiedOf}
 use Rattle.serial.proofs.taker.copy_packet.Statement.{statement}
 use Rattle.serial.proofs.taker.copy_packet.Tie as tie
 
+-- the output after it, for the reason that an arm is for
+copied-for : (r q : Reason) (s : Receiver) (out : List ℕ) → r ≡ q → copiedOf q s out ≡ copiedOf r s out
+copied-for r q s out e = ap (λ (x : Reason). copiedOf x s out) (sym e)
+
+enum-known-reason : tie.Need-enum-known-reason
+enum-known-reason c = search needs
+
 add-copy : tie.Need-add-copy
-add-copy c = search needs
+add-copy c =
+    let a = c .before .before .before .before .before in
+    let n = c .before .reason .given .0 .0 in
+    let few : n ≤ 255 = subst Fair (c .before .reason .given .1) (a .pre .0) in
+    search needs
 
 sub-copy : tie.Need-sub-copy
 sub-copy c = search needs
@@ -19,24 +37,89 @@ part-copy-start : tie.Need-part-copy-start
 part-copy-start c = search needs
 
 part-copy-end : tie.Need-part-copy-end
-part-copy-end c = search needs
+part-copy-end c =
+    let a = c .before .before .before .before .before in
+    let n = c .before .reason .given .0 .0 in
+    let few : n ≤ 255 = subst Fair (c .before .reason .given .1) (a .pre .0) in
+    let l : length (a .args .stored .now) ≡ 259 = a .pre .1 in
+    search needs
 
 copy-requires : tie.Need-copy-requires
-copy-requires c κs = search needs
+copy-requires c κs =
+    let a = c .before .before .before .before .before .before .before in
+    let n = c .before .before .before .reason .given .0 .0 in
+    let few : n ≤ 255 = subst Fair (c .before .before .before .reason .given .1) (a .pre .0) in
+    let room : 255 ≤ length (a .args .out .now) = a .pre .2 in
+    search needs
+
+enum-told : tie.Need-enum-told
+enum-told c = search needs
+
+enum-told-2 : tie.Need-enum-told-2
+enum-told-2 c = search needs
+
+enum-told-3 : tie.Need-enum-told-3
+enum-told-3 c = search needs
+
+enum-told-4 : tie.Need-enum-told-4
+enum-told-4 c = search needs
 
 same-length : tie.Need-same-length
 same-length c = search needs
 
 returns : tie.Need-returns
+unfolding copiedOf
 returns c =
     let k = c .before .before in
-    let a = k .before .before .before .before .before .args in
+    let a = k .before .before .before .before .before .before .before .before .args in
+    let n = k .before .before .before .before .reason .given .0 .0 in
     let from-two = drop 2 (a .stored .now) in
-    let size : a .n + 2 - 2 ≡ a .n = omega arith in
-    start-copied (take (a .n + 2 - 2) from-two) (a .out .now) _ (k .copy .ensures .1)
-    ∙ ap (λ (n : ℕ). atStart (take n from-two) (a .out .now)) size
+    let size : n + 2 - 2 ≡ n = omega arith in
+    λ head. start-copied (take (n + 2 - 2) from-two) (a .out .now) _ (k .copy .ensures .1)
+    ∙ ap (λ (k : ℕ). atStart (take k from-two) (a .out .now)) size
+    ∙ copied-for (a .reason) (Packet n) (held head (a .stored .now)) (a .out .now) (k .before .before .before .before .reason .given .1)
+
+returns-2 : tie.Need-returns-2
+unfolding copiedOf
+returns-2 c =
+    let a = c .before .before .before .before .args in
+    λ head. copied-for (a .reason) InputEnded (held head (a .stored .now)) (a .out .now) (c .enum-told .given .1)
+
+returns-3 : tie.Need-returns-3
+unfolding copiedOf
+returns-3 c =
+    let a = c .before .before .before .before .args in
+    λ head. copied-for (a .reason) AllowanceSpent (held head (a .stored .now)) (a .out .now) (c .enum-told2 .given .1)
+
+returns-4 : tie.Need-returns-4
+unfolding copiedOf
+returns-4 c =
+    let a = c .before .before .before .before .args in
+    λ head. copied-for (a .reason) ShortOutput (held head (a .stored .now)) (a .out .now) (c .enum-told3 .given .1)
+
+returns-5 : tie.Need-returns-5
+unfolding copiedOf
+returns-5 c =
+    let a = c .before .before .before .before .args in
+    λ head. copied-for (a .reason) Inconsistent (held head (a .stored .now)) (a .out .now) (c .enum-told4 .given .1)
 
 pub copy-packet-spec : {M : Type 1} → statement M
 copy-packet-spec =
     tie.close
-    (tie.spec add-copy sub-copy part-copy-start part-copy-end copy-requires same-length returns)
+    (tie.spec
+    enum-known-reason
+    add-copy
+    sub-copy
+    part-copy-start
+    part-copy-end
+    copy-requires
+    enum-told
+    enum-told-2
+    enum-told-3
+    enum-told-4
+    same-length
+    returns
+    returns-2
+    returns-3
+    returns-4
+    returns-5)

@@ -1,11 +1,14 @@
--- `Receiver::step` meets its contract: from a consistent state the core, on the state's head and stored bytes, makes the step; else the answer is
+-- `Receiver::step` meets its contract: from a consistent state the taker's loop takes the one byte, and taking one byte is a step; else the answer is
 -- number 9 and a fresh state. Assumes nothing.
 use mathlib.Core.Path.{_∙_, ap, sym}
 use borrow.Author.Needs.{needs}
+use Rattle.serial.specs.declared.receiver.Outcome.{Outcome}
 use Rattle.serial.specs.declared.receiver.Outcome.the-variants.{Inconsistent}
 use Rattle.serial.specs.declared.receiver.Receiver.{Receiver}
 use Rattle.serial.specs.Receiver.{consistentOf, stepOf}
+use Rattle.serial.specs.Taker.{outcomeOf}
 use Rattle.serial.proofs.Answers.{step-answered}
+use Rattle.serial.proofs.TakerLaws.{one-taken}
 use Rattle.serial.proofs.receiver.Receiver.step.Statement.{statement}
 use Rattle.serial.proofs.receiver.Receiver.step.Tie as tie
 
@@ -15,12 +18,18 @@ consistent-requires c κs = search needs
 head-requires : tie.Need-head-requires
 head-requires c κs = search needs
 
-slice-aggregate-advance : tie.Need-slice-aggregate-advance
-slice-aggregate-advance c = search needs
+slice-aggregate-take-bytes : tie.Need-slice-aggregate-take-bytes
+slice-aggregate-take-bytes c = search needs
 
-advance-requires : tie.Need-advance-requires
-advance-requires c κs =
-    (search needs, ap consistentOf (c .before .head .ensures) ∙ sym (c .before .before .before .before .consistent .ensures) ∙ c .before .before .before .if1 .taken)
+slice-aggregate-take-bytes-2 : tie.Need-slice-aggregate-take-bytes-2
+slice-aggregate-take-bytes-2 c = search needs
+
+take-bytes-requires : tie.Need-take-bytes-requires
+take-bytes-requires c κs =
+    (search needs, ap consistentOf (c .before .before .head .ensures) ∙ sym (c .before .before .before .before .before .consistent .ensures) ∙ c .before .before .before .before .if1 .taken)
+
+outcome-requires : tie.Need-outcome-requires
+outcome-requires c κs = search needs
 
 with-requires : tie.Need-with-requires
 with-requires c κs = search needs
@@ -30,10 +39,12 @@ fresh-requires c κs = search needs
 
 returns : tie.Need-returns
 returns c =
-    let o = c .before .before .before .advance .result .outcome in
+    let t = c .before .before .before .before .take-bytes in
+    let b = c .before .before .before .before .before .before .before .before .before .before .before .args .b in
     step-answered _ _ _
-    (ap (λ (s : Receiver). record { outcome = o; state = s }) (c .with .ensures)
-    ∙ c .before .before .before .advance .ensures ∙ ap (stepOf _) (c .before .before .before .before .before .head .ensures))
+    (ap (λ (o : Outcome). record { outcome = o; state = c .with .result }) (c .before .outcome .ensures)
+    ∙ ap (λ (s : Receiver). record { outcome = outcomeOf (t .result .reason); state = s }) (c .with .ensures) ∙ one-taken b _ _ (t .ensures .0) (t .ensures .1 .0)
+    ∙ ap (stepOf b) (c .before .before .before .before .before .before .before .head .ensures))
 
 returns-2 : tie.Need-returns-2
 unfolding stepOf
@@ -48,8 +59,10 @@ step-spec =
     (tie.spec
     consistent-requires
     head-requires
-    slice-aggregate-advance
-    advance-requires
+    slice-aggregate-take-bytes
+    slice-aggregate-take-bytes-2
+    take-bytes-requires
+    outcome-requires
     with-requires
     fresh-requires
     returns

@@ -1,0 +1,4 @@
+pub mod Said
+pub mod InBuffer
+pub mod StateLaws
+pub mod OneResult

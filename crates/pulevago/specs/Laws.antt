@@ -1,0 +1,65 @@
+-- Load and store are each other's inverse on consistent states, any other bytes are refused, and what a call leaves is a state. The proofs:
+-- `proofs/StateLaws.antt`. Assumes nothing.
+use Prim.Native.Nat.{ℕ, _<_}
+use mathlib.Core.Path.{_≡_}
+use mathlib.Core.Bool.{true, false}
+use mathlib.Core.List.{List, [], _∷_}
+use lib.ListN.{replicate}
+use Rattle.checks.specs.Laws.{Bytes}
+use Rattle.checks.specs.Numbers.{answer, inconsistent, shortOutput}
+use Rattle.checks.specs.Part.{bytesOf}
+use Rattle.serial.specs.declared.receiver.Receiver.{Receiver}
+use Rattle.serial.specs.Consistency.{Consistent}
+use Rattle.serial.specs.Receiver.{freshOf, stepOf}
+use Rattle.serial.specs.Run.{packetIn}
+use Rattle.pulevago.specs.Calls.{handedPart, holdsState, stepAnswerIn, stepLeaves, takeAnswerIn, takeLeaves, takenIn}
+use Rattle.pulevago.specs.State.{loaded, sized, stateBytes}
+
+-- stored, and loaded again: the same state, and a buffer of it holds one
+abbrev pub StoredLoaded : Type 0
+StoredLoaded = (s : Receiver) → Consistent s → (loaded (stateBytes s) ≡ s) × (holdsState (stateBytes s) ≡ true)
+
+-- loaded, and stored again: the same bytes. So bytes that hold a state are those of a consistent state, and no others
+abbrev pub LoadedStored : Type 0
+LoadedStored = (bytes : List ℕ) → Bytes bytes → holdsState bytes ≡ true → Consistent (loaded bytes) × (stateBytes (loaded bytes) ≡ bytes)
+
+-- a fresh state is 263 zeros
+abbrev pub FreshZeros : Type 0
+FreshZeros = stateBytes freshOf ≡ replicate 263 0
+
+-- bytes of a state's size that hold none: number 9, from a step and from the taker, and fresh bytes after it
+abbrev pub NoState : Type 0
+NoState = (bytes : List ℕ) → sized bytes ≡ true → holdsState bytes ≡ false
+    → ((b : ℕ) → (stepAnswerIn b bytes ≡ answer inconsistent []) × (stepLeaves b bytes ≡ stateBytes freshOf))
+    × ((input : List ℕ) (allowance room : ℕ)
+    → (takeAnswerIn input allowance room bytes ≡ answer inconsistent []) × (takeLeaves input allowance room bytes ≡ stateBytes freshOf))
+
+-- a buffer of another size: number 9, and it is left as it is
+abbrev pub WrongSize : Type 0
+WrongSize = (bytes : List ℕ) → sized bytes ≡ false
+    → ((b : ℕ) → (stepAnswerIn b bytes ≡ answer inconsistent []) × (stepLeaves b bytes ≡ bytes))
+    × ((input : List ℕ) (allowance room : ℕ)
+    → (takeAnswerIn input allowance room bytes ≡ answer inconsistent []) × (takeLeaves input allowance room bytes ≡ bytes))
+
+-- whatever stood in a buffer of a state's size, a step and the taker leave a state there
+abbrev pub LeavesState : Type 0
+LeavesState = (bytes : List ℕ) → sized bytes ≡ true
+    → ((b : ℕ) → b < 256 → holdsState (stepLeaves b bytes) ≡ true)
+    × ((input : List ℕ) (allowance room : ℕ) → Bytes input → holdsState (takeLeaves input allowance room bytes) ≡ true)
+
+-- and it is the state that the receiver's own functions hand back, so a receiver may be kept as bytes between any two calls
+abbrev pub GoesOn : Type 0
+GoesOn = (bytes : List ℕ) → sized bytes ≡ true
+    → ((b : ℕ) → loaded (stepLeaves b bytes) ≡ stepOf b (loaded bytes) .state)
+    × ((input : List ℕ) (allowance room : ℕ)
+    → loaded (takeLeaves input allowance room bytes) ≡ takenIn input allowance room bytes .state)
+
+-- number 2 from the taker leaves the state's bytes as they are
+abbrev pub ShortKept : Type 0
+ShortKept = (input bytes : List ℕ) (allowance room : ℕ) → Bytes bytes
+    → takeAnswerIn input allowance room bytes ≡ answer shortOutput [] → takeLeaves input allowance room bytes ≡ bytes
+
+-- a packet that a step hands out stands in the buffer, at the part that is given
+abbrev pub HandedThere : Type 0
+HandedThere = (bytes : List ℕ) (b n : ℕ) → sized bytes ≡ true → stepAnswerIn b bytes .values ≡ n ∷ []
+    → bytesOf (handedPart (stepAnswerIn b bytes .values)) (stepLeaves b bytes) ≡ packetIn n (stepOf b (loaded bytes) .state)

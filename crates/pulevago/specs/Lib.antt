@@ -1,0 +1,4 @@
+pub mod Lent
+pub mod State
+pub mod Calls
+pub mod Laws

@@ -1,0 +1,9 @@
+// What C and Rust can call: every public function of the crates below, over numbers and byte slices, under names that begin with `pulevago_`.
+// `include/pulevago.h` declares the same for C. Each answers a number of document 01; what it gives beside that it writes through lent numbers, which a
+// refusal leaves as they are.
+mod check_values;
+mod i2c_calls;
+mod numbers;
+mod serial_calls;
+mod state;
+mod usb_calls;

@@ -1,0 +1,155 @@
+// The serial wire: the frame writer, and the receiver over a lent state.
+ghost use mathlib.Core.Path.{_≡_};
+ghost use lib.ListN.{length};
+ghost use Rattle.checks.specs.Output.{atStart};
+ghost use Rattle.serial.specs.Answers.{writerAnswer};
+ghost use Rattle.serial.specs.Frame.{frame};
+ghost use Rattle.serial.specs.Receiver.{freshOf};
+ghost use Rattle.pulevago.specs.Calls.{freshAnswer, handedPart, left, reasonNumber, stepAnswerIn, stepLeaves, takeAnswerIn, takeLeaves, takeOutput, takenIn, testAnswer};
+ghost use Rattle.pulevago.specs.Lent.{firstOf, given};
+use crate::numbers::BAD_LENGTH;
+use crate::numbers::DONE;
+use crate::numbers::INCONSISTENT;
+use crate::numbers::SHORT_OUTPUT;
+use crate::state::STATE_SIZE;
+use crate::state::load;
+use crate::state::store;
+use serial::Outcome;
+use serial::Reason;
+use serial::Receiver;
+use serial::Written;
+
+// where a packet that was handed out begins in a lent state
+const PACKET_AT: usize = 6;
+
+// Writes the packet's frame at the output's start and its length to `written`.
+#[no_mangle]
+pub extern "C" fn pulevago_frame_to_serial(
+    packet: &[u8],
+    out: &mut [u8],
+    written: &mut usize,
+) -> u32
+    ensures { λ r. ⌜ r ≡ writerAnswer (now (packet .entry)) (length (now (out .entry))) .number ⌝ }
+    ensures { λ r. ⌜ now (out .exit) ≡ given r (now (out .entry)) (atStart (frame (now (packet .entry))) (now (out .entry))) ⌝ }
+    ensures { λ r. ⌜ now (written .exit) ≡ given r (now (written .entry)) (firstOf (writerAnswer (now (packet .entry)) (length (now (out .entry))) .values)) ⌝ }
+{
+    match serial::frame_to_serial(packet, out) {
+        Written::Done(n) => {
+            *written = n;
+            DONE
+        }
+        Written::BadLength => BAD_LENGTH,
+        Written::ShortOutput => SHORT_OUTPUT,
+    }
+}
+
+// Makes a fresh receiver of the lent state.
+#[no_mangle]
+pub extern "C" fn pulevago_receiver_fresh(state: &mut [u8]) -> u32
+    ensures { λ r. ⌜ r ≡ freshAnswer (now (state .entry)) .number ⌝ }
+    ensures { λ _. ⌜ now (state .exit) ≡ left (now (state .entry)) freshOf ⌝ }
+{
+    if state.len() != STATE_SIZE {
+        return INCONSISTENT;
+    }
+    store(Receiver::fresh(), state);
+    DONE
+}
+
+// Whether the lent state is consistent.
+#[no_mangle]
+pub extern "C" fn pulevago_receiver_consistent(state: &[u8]) -> u32
+    ensures { λ r. ⌜ r ≡ testAnswer (now (state .entry)) .number ⌝ }
+{
+    if state.len() != STATE_SIZE {
+        return INCONSISTENT;
+    }
+    if load(state).consistent() {
+        return DONE;
+    }
+    INCONSISTENT
+}
+
+// Feeds one byte to the receiver in the lent state.
+#[no_mangle]
+pub extern "C" fn pulevago_receiver_step(
+    state: &mut [u8],
+    byte: u8,
+    place: &mut usize,
+    size: &mut usize,
+) -> u32
+    ensures { λ r. ⌜ r ≡ stepAnswerIn byte (now (state .entry)) .number ⌝ }
+    ensures { λ _. ⌜ now (state .exit) ≡ stepLeaves byte (now (state .entry)) ⌝ }
+    ensures { λ r. ⌜ now (place .exit) ≡ given r (now (place .entry)) (handedPart (stepAnswerIn byte (now (state .entry)) .values) .place) ⌝ }
+    ensures { λ r. ⌜ now (size .exit) ≡ given r (now (size .entry)) (handedPart (stepAnswerIn byte (now (state .entry)) .values) .size) ⌝ }
+{
+    if state.len() != STATE_SIZE {
+        return INCONSISTENT;
+    }
+    let stepped = load(state).step(byte);
+    let outcome = stepped.outcome;
+    let receiver = stepped.state;
+    store(receiver, state);
+    match outcome {
+        Outcome::Nothing => {
+            *place = 0;
+            *size = 0;
+            DONE
+        }
+        Outcome::Packet(n) => {
+            *place = PACKET_AT;
+            *size = n;
+            DONE
+        }
+        Outcome::Inconsistent => INCONSISTENT,
+    }
+}
+
+// Takes bytes of the input for the receiver in the lent state.
+#[no_mangle]
+pub extern "C" fn pulevago_receiver_take(
+    state: &mut [u8],
+    input: &[u8],
+    allowance: usize,
+    out: &mut [u8],
+    reason: &mut u8,
+    taken: &mut usize,
+    size: &mut usize,
+) -> u32
+    ensures { λ r. ⌜ r ≡ takeAnswerIn (now (input .entry)) allowance (length (now (out .entry))) (now (state .entry)) .number ⌝ }
+    ensures { λ _. ⌜ now (state .exit) ≡ takeLeaves (now (input .entry)) allowance (length (now (out .entry))) (now (state .entry)) ⌝ }
+    ensures { λ _. ⌜ now (out .exit) ≡ takeOutput (now (input .entry)) allowance (now (state .entry)) (now (out .entry)) ⌝ }
+    ensures { λ r. ⌜ now (reason .exit) ≡ given r (now (reason .entry)) (reasonNumber (takenIn (now (input .entry)) allowance (length (now (out .entry))) (now (state .entry)) .reason)) ⌝ }
+    ensures { λ r. ⌜ now (taken .exit) ≡ given r (now (taken .entry)) (takenIn (now (input .entry)) allowance (length (now (out .entry))) (now (state .entry)) .taken) ⌝ }
+    ensures { λ r. ⌜ now (size .exit) ≡ given r (now (size .entry)) (firstOf (takeAnswerIn (now (input .entry)) allowance (length (now (out .entry))) (now (state .entry)) .values)) ⌝ }
+{
+    if state.len() != STATE_SIZE {
+        return INCONSISTENT;
+    }
+    let took = load(state).take(input, allowance, out);
+    let why = took.reason;
+    let receiver = took.state;
+    store(receiver, state);
+    match why {
+        Reason::Packet(n) => {
+            *reason = 0;
+            *taken = took.taken;
+            *size = n;
+            DONE
+        }
+        Reason::InputEnded => {
+            *reason = 1;
+            *taken = took.taken;
+            *size = 0;
+            DONE
+        }
+        Reason::AllowanceSpent => {
+            *reason = 2;
+            *taken = took.taken;
+            *size = 0;
+            DONE
+        }
+        Reason::ShortOutput => SHORT_OUTPUT,
+        Reason::Inconsistent => INCONSISTENT,
+    }
+}
