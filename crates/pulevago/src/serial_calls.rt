@@ -7,10 +7,13 @@ ghost use Rattle.serial.specs.Frame.{frame};
 ghost use Rattle.serial.specs.Receiver.{freshOf};
 ghost use Rattle.pulevago.specs.Calls.{freshAnswer, handedPart, left, reasonNumber, stepAnswerIn, stepLeaves, takeAnswerIn, takeLeaves, takeOutput, takenIn, testAnswer};
 ghost use Rattle.pulevago.specs.Lent.{firstOf, given};
+use crate::numbers::ALLOWANCE_SPENT;
 use crate::numbers::BAD_LENGTH;
 use crate::numbers::DONE;
 use crate::numbers::INCONSISTENT;
+use crate::numbers::INPUT_ENDED;
 use crate::numbers::SHORT_OUTPUT;
+use crate::numbers::TOOK_PACKET;
 use crate::state::STATE_SIZE;
 use crate::state::load;
 use crate::state::store;
@@ -22,7 +25,8 @@ use serial::Written;
 // where a packet that was handed out begins in a lent state
 const PACKET_AT: usize = 6;
 
-// Writes the packet's frame at the output's start and its length to `written`.
+// Writes the packet's frame at the output's start, and its length to `written`. It refuses a packet under 5 or over 255 bytes (number 1), and then an
+// output shorter than the frame (2). A refusal writes nothing, and the bytes beyond the frame keep their content.
 #[no_mangle]
 pub extern "C" fn pulevago_frame_to_serial(
     packet: &[u8],
@@ -43,7 +47,7 @@ pub extern "C" fn pulevago_frame_to_serial(
     }
 }
 
-// Makes a fresh receiver of the lent state.
+// Makes the lent state a fresh receiver's, whatever stood there. It refuses a buffer that has not 263 bytes (number 9), and leaves it as it is.
 #[no_mangle]
 pub extern "C" fn pulevago_receiver_fresh(state: &mut [u8]) -> u32
     ensures { λ r. ⌜ r ≡ freshAnswer (now (state .entry)) .number ⌝ }
@@ -56,7 +60,7 @@ pub extern "C" fn pulevago_receiver_fresh(state: &mut [u8]) -> u32
     DONE
 }
 
-// Whether the lent state is consistent.
+// Whether the lent bytes are a consistent state: done, or number 9, also for a buffer that has not 263 bytes. It changes nothing.
 #[no_mangle]
 pub extern "C" fn pulevago_receiver_consistent(state: &[u8]) -> u32
     ensures { λ r. ⌜ r ≡ testAnswer (now (state .entry)) .number ⌝ }
@@ -70,7 +74,9 @@ pub extern "C" fn pulevago_receiver_consistent(state: &[u8]) -> u32
     INCONSISTENT
 }
 
-// Feeds one byte to the receiver in the lent state.
+// Feeds one byte to the receiver in the lent state. A packet that it ends stands in the state, `size` bytes from `place` on, until the next byte is fed;
+// without one both are 0. It refuses bytes that are no consistent state (number 9): where they are 263 a fresh one stands there then, and any other buffer
+// is left as it is. The byte is not looked at, and place and size stay as they are.
 #[no_mangle]
 pub extern "C" fn pulevago_receiver_step(
     state: &mut [u8],
@@ -105,7 +111,10 @@ pub extern "C" fn pulevago_receiver_step(
     }
 }
 
-// Takes bytes of the input for the receiver in the lent state.
+// Feeds bytes of the input to the receiver in the lent state, until one ends a packet, the input ends or the allowance is spent: `reason` names the first
+// of these that holds, and `taken` says how many bytes were fed. A packet of `size` bytes is copied to the output's start; without one `size` is 0 and the
+// output is unchanged. It refuses bytes that are no consistent state (number 9) as a step does, and then an output under 255 bytes (2), which leaves the
+// state as it is. A refusal feeds no byte and writes nothing else.
 #[no_mangle]
 pub extern "C" fn pulevago_receiver_take(
     state: &mut [u8],
@@ -132,19 +141,19 @@ pub extern "C" fn pulevago_receiver_take(
     store(receiver, state);
     match why {
         Reason::Packet(n) => {
-            *reason = 0;
+            *reason = TOOK_PACKET;
             *taken = took.taken;
             *size = n;
             DONE
         }
         Reason::InputEnded => {
-            *reason = 1;
+            *reason = INPUT_ENDED;
             *taken = took.taken;
             *size = 0;
             DONE
         }
         Reason::AllowanceSpent => {
-            *reason = 2;
+            *reason = ALLOWANCE_SPENT;
             *taken = took.taken;
             *size = 0;
             DONE
