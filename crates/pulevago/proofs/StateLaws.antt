@@ -6,7 +6,7 @@ use mathlib.Core.Bool.{Bool, true, false, cond}
 use mathlib.Core.List.{List, [], _∷_}
 use native.Mathlib.Omega.{arith}
 use lib.Dec.{leb, ltb}
-use lib.ListN.{List·getD-eq-default, drop, getD, length, length-drop}
+use lib.ListN.{List·getD-eq-default, drop, getD, length}
 use borrow.Author.Tests.{eq-eqb, eqb-true, le-leb, leb-false, leb-true}
 use Rattle.checks.specs.Laws.{Bytes}
 use Rattle.checks.proofs.Choice.{and, left, right}
@@ -14,13 +14,17 @@ use Rattle.checks.proofs.Numbers.{same-number}
 use Rattle.serial.specs.declared.receiver.Position.{Position}
 use Rattle.serial.specs.declared.receiver.Position.the-variants.{FrameSearch, SerialRevision, ByteCount, Data, DataEscaped, Check, FrameEnd}
 use Rattle.serial.specs.declared.receiver.Receiver.{Receiver}
+use Rattle.serial.specs.Consistency.{Consistent}
 use Rattle.serial.specs.Receiver.{consistentOf, stepOf}
+use Rattle.serial.specs.Run.{runOf}
 use Rattle.serial.specs.Taker.{takenOf}
 use Rattle.serial.proofs.Consistent.{here-at}
 use Rattle.serial.proofs.HandsBack.{step-hands-back, taker-hands-back}
-use Rattle.pulevago.specs.Calls.{stepAnswerIn, stepLeaves, takeAnswerIn, takeLeaves, takenIn}
-use Rattle.pulevago.specs.Laws.{FreshZeros, GoesOn, HandedThere, LeavesState, LoadedStored, NoState, ShortKept, StoredLoaded, WrongSize}
+use Rattle.serial.proofs.Keeps.{keeps}
+use Rattle.pulevago.specs.Calls.{stepAnswerIn, stepLeaves, stepsLeave, takeAnswerIn, takeLeaves, takenIn}
+use Rattle.pulevago.specs.Laws.{FreshZeros, GoesOn, HandedThere, LeavesState, LoadedStored, NoState, ShortKept, StepsRun, StoredLoaded, WrongSize}
 use Rattle.pulevago.specs.State.{loaded, positionNumber, positions, sized, stateBytes}
+use Rattle.pulevago.proofs.InBuffer.{loaded-size}
 
 -- ---- the first byte
 
@@ -93,11 +97,6 @@ state-back s = simp (position-back (s .position), number-known (s .position), wo
 size-stored : (s : Receiver) → length (s .stored) ≡ 259 → sized (stateBytes s) ≡ true
 size-stored s h = eq-eqb (length (stateBytes s)) 263 (omega arith)
 
--- and a buffer of that size has 259 stored bytes
-size-loaded : (bytes : List ℕ) → sized bytes ≡ true → length (loaded bytes .stored) ≡ 259
-unfolding loaded
-size-loaded bytes h = omega (arith, length-drop 4 bytes, eqb-true (length bytes) 263 h)
-
 -- a buffer is its first four bytes and the rest
 four-and-rest : (bytes : List ℕ) → 4 ≤ length bytes
     → (getD bytes 0 0 ∷ getD bytes 1 0 ∷ getD bytes 2 0 ∷ getD bytes 3 0 ∷ drop 4 bytes) ≡ bytes
@@ -126,7 +125,7 @@ pub loaded-stored : LoadedStored
 loaded-stored bytes small h =
     let size : sized bytes ≡ true = left (sized bytes) (consistentOf (loaded bytes)) h in
     let fits : consistentOf (loaded bytes) ≡ true = right (sized bytes) (consistentOf (loaded bytes)) h in
-    (record { sized = size-loaded bytes size; fits = fits }, bytes-back bytes small size fits)
+    (record { sized = loaded-size bytes (eqb-true (length bytes) 263 size); fits = fits }, bytes-back bytes small size fits)
 
 -- a fresh state: both sides compute to the same list
 pub fresh-zeros : FreshZeros
@@ -152,7 +151,7 @@ wrong-size bytes h = (λ b. (simp h, simp h), λ input allowance room. (simp h, 
 pub leaves-state : LeavesState
 unfolding stepLeaves takeLeaves
 leaves-state bytes size =
-    let stored = size-loaded bytes size in (
+    let stored = loaded-size bytes (eqb-true (length bytes) 263 size) in (
       λ b byte. simp size (stored-loaded _ (step-hands-back (loaded bytes) stored b byte) .1),
       λ input allowance room heard. simp size (stored-loaded _ (taker-hands-back (loaded bytes) stored input allowance room heard) .1),
     )
@@ -191,3 +190,17 @@ short-kept input bytes allowance room small h = of-size (sized bytes) refl
 pub handed-there : HandedThere
 unfolding stepLeaves
 handed-there bytes b n size h = simp (h, size)
+
+-- ---- bytes fed one by one
+
+-- a step on a stored state leaves the bytes of the state that it leads to
+one-step : (s : Receiver) (b : ℕ) → Consistent s → stepLeaves b (stateBytes s) ≡ stateBytes (stepOf b s .state)
+unfolding stepLeaves
+one-step s b c = simp (size-stored s (c .sized), state-back s)
+
+-- each step goes on from the state that the one before left
+pub steps-run : StepsRun
+unfolding stepsLeave runOf
+steps-run s [] c small = refl
+steps-run s (b ∷ bs) c small =
+    ap (stepsLeave bs) (one-step s b c) ∙ steps-run (stepOf b s .state) bs (keeps s b c (small 0)) (λ i. small (suc i))

@@ -43,6 +43,11 @@ stepAnswerIn b bytes = about bytes (stepAnswer b (loaded bytes))
 unfoldable pub stepLeaves : ℕ → List ℕ → List ℕ
 stepLeaves b bytes = left bytes (stepOf b (loaded bytes) .state)
 
+-- several, one after the other, each on the bytes that the one before left
+unfoldable pub stepsLeave : List ℕ → List ℕ → List ℕ
+stepsLeave [] bytes = bytes
+stepsLeave (b ∷ bs) bytes = stepsLeave bs (stepLeaves b bytes)
+
 -- a packet that was handed out, as a part of the buffer, by an answer's values: it stands at the stored bytes from 2 on
 abbrev pub handedPart : List ℕ → Part
 handedPart [] = noPart

@@ -11,8 +11,8 @@ use Rattle.checks.specs.Part.{bytesOf}
 use Rattle.serial.specs.declared.receiver.Receiver.{Receiver}
 use Rattle.serial.specs.Consistency.{Consistent}
 use Rattle.serial.specs.Receiver.{freshOf, stepOf}
-use Rattle.serial.specs.Run.{packetIn}
-use Rattle.pulevago.specs.Calls.{handedPart, holdsState, stepAnswerIn, stepLeaves, takeAnswerIn, takeLeaves, takenIn}
+use Rattle.serial.specs.Run.{packetIn, runOf}
+use Rattle.pulevago.specs.Calls.{handedPart, holdsState, stepAnswerIn, stepLeaves, stepsLeave, takeAnswerIn, takeLeaves, takenIn}
 use Rattle.pulevago.specs.State.{loaded, sized, stateBytes}
 
 -- stored, and loaded again: the same state, and a buffer of it holds one
@@ -53,6 +53,11 @@ GoesOn = (bytes : List ℕ) → sized bytes ≡ true
     → ((b : ℕ) → loaded (stepLeaves b bytes) ≡ stepOf b (loaded bytes) .state)
     × ((input : List ℕ) (allowance room : ℕ)
     → loaded (takeLeaves input allowance room bytes) ≡ takenIn input allowance room bytes .state)
+
+-- so bytes fed one by one leave the bytes of the state that the definition's run over them comes to: what is proved of runs, demand 3 too, holds of a
+-- receiver that is kept as bytes
+abbrev pub StepsRun : Type 0
+StepsRun = (s : Receiver) (bs : List ℕ) → Consistent s → Bytes bs → stepsLeave bs (stateBytes s) ≡ stateBytes (runOf s bs)
 
 -- number 2 from the taker leaves the state's bytes as they are
 abbrev pub ShortKept : Type 0

@@ -1,6 +1,6 @@
 //! The serial receivers under one name, so that one loop drives all of them.
 use crate::plain::bulk_receiver::BulkReceiver;
-use crate::plain::receiver::{Checking, Receiver};
+use crate::plain::receiver::{AtEnd, Kept, Receiver};
 use pulevago::Error;
 use pulevago::serial::{PACKET_MAX, Taken};
 
@@ -16,38 +16,28 @@ pub trait Taker {
     ) -> Result<Taken, Error>;
 }
 
-impl Taker for pulevago::serial::Receiver {
-    fn take_at_most(
-        &mut self,
-        input: &[u8],
-        allowance: usize,
-        out: &mut [u8],
-    ) -> Result<Taken, Error> {
-        self.take_at_most(input, allowance, out)
-    }
+/// Each has the function under the same name already.
+macro_rules! taker {
+    ($($receiver:ty),*) => {$(
+        impl Taker for $receiver {
+            fn take_at_most(
+                &mut self,
+                input: &[u8],
+                allowance: usize,
+                out: &mut [u8],
+            ) -> Result<Taken, Error> {
+                self.take_at_most(input, allowance, out)
+            }
+        }
+    )*};
 }
 
-impl<C: Checking> Taker for Receiver<C> {
-    fn take_at_most(
-        &mut self,
-        input: &[u8],
-        allowance: usize,
-        out: &mut [u8],
-    ) -> Result<Taken, Error> {
-        self.take_at_most(input, allowance, out)
-    }
-}
-
-impl Taker for BulkReceiver {
-    fn take_at_most(
-        &mut self,
-        input: &[u8],
-        allowance: usize,
-        out: &mut [u8],
-    ) -> Result<Taken, Error> {
-        self.take_at_most(input, allowance, out)
-    }
-}
+taker!(
+    pulevago::serial::Receiver,
+    Receiver<AtEnd>,
+    Receiver<Kept>,
+    BulkReceiver
+);
 
 /// Gives the line to the taker in pieces, and `each` packet with the place on the line behind its last byte.
 pub fn take_line(

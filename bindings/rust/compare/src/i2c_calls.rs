@@ -10,6 +10,7 @@ const PAYLOAD_MAX: usize = 254;
 const HEADER: usize = 4;
 
 /// A payload and the addresses of its frame.
+#[derive(Clone, Copy)]
 struct Frame<'a> {
     own: u8,
     dest: u8,
@@ -81,16 +82,8 @@ impl Calls<'_> {
                     300,
                 ];
                 for room in rooms {
-                    let (own, dest) = (self.address(), self.address());
-                    self.there_and_back(
-                        Frame {
-                            own,
-                            dest,
-                            payload: &payload,
-                            pec,
-                        },
-                        room,
-                    );
+                    let frame = self.frame_of(&payload, pec);
+                    self.there_and_back(frame, room);
                 }
                 self.each_byte_damaged(&rust_side::i2c_encode(0x20, 0x1d, &payload, need, pec).out);
             }
@@ -126,25 +119,15 @@ impl Calls<'_> {
         let payload = self.random.bytes(length);
         let pec = self.random.once_in(2);
         let room = length + self.random.between(0, 10);
-        let (own, dest) = (self.address(), self.address());
-        self.there_and_back(
-            Frame {
-                own,
-                dest,
-                payload: &payload,
-                pec,
-            },
-            room,
-        );
-        self.one_encode(
-            Frame {
-                own: dest,
-                dest: own,
-                payload: &payload,
-                pec: !pec,
-            },
-            room,
-        );
+        let frame = self.frame_of(&payload, pec);
+        self.there_and_back(frame, room);
+        let back = Frame {
+            own: frame.dest,
+            dest: frame.own,
+            pec: !pec,
+            ..frame
+        };
+        self.one_encode(back, room);
     }
 
     /// Bytes at random, some with a header that may fit.
@@ -223,6 +206,16 @@ impl Calls<'_> {
     /// The bytes with their own PEC behind them, so that what comes after that check is reached.
     fn decode_with_right_pec(&mut self, bytes: &[u8]) {
         self.decode_both(&[bytes, &[smbus_pec::pec(bytes)]].concat());
+    }
+
+    /// A payload's frame, from any address to any.
+    fn frame_of<'p>(&mut self, payload: &'p [u8], pec: bool) -> Frame<'p> {
+        Frame {
+            own: self.address(),
+            dest: self.address(),
+            payload,
+            pec,
+        }
     }
 
     fn address(&mut self) -> u8 {

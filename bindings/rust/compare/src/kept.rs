@@ -82,30 +82,28 @@ fn three_flags() -> bool {
     )
 }
 
+/// An empty part behind a header of four bytes, which both wires have.
+const NOTHING_BEHIND_HEADER: Part = Part {
+    place: 4,
+    length: 0,
+};
+
 fn i2c_low_bits() -> bool {
     let input = [0x3b, 0x0f, 0x01, 0x40];
-    let empty = Part {
-        place: 4,
-        length: 0,
-    };
     alike(
         "I2C 3b 0f 01 40, low bits as no sender sets them: an empty payload from 20",
         outcome(|| rust_side::i2c_decode(&input, false)),
         outcome(|| port_side::i2c_decode(&input, false)),
-        Outcome::Given(Ok((0x20, empty))),
+        Outcome::Given(Ok((0x20, NOTHING_BEHIND_HEADER))),
     )
 }
 
 fn usb_third_byte() -> bool {
     let input = [0x1a, 0xb4, 0xff, 0x04];
-    let empty = Part {
-        place: 4,
-        length: 0,
-    };
     alike(
         "USB 1a b4 ff 04, a third byte as no sender sets it: an empty packet",
         outcome(|| rust_side::usb_decode(&input)),
         outcome(|| port_side::usb_decode(&input)),
-        Outcome::Given(Ok((empty, empty))),
+        Outcome::Given(Ok((NOTHING_BEHIND_HEADER, NOTHING_BEHIND_HEADER))),
     )
 }

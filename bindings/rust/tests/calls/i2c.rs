@@ -4,7 +4,7 @@ use pulevago::i2c::{self, Decoded};
 use pulevago::{ffi, Error};
 
 use crate::document01::{i2c_frame, pec_from, PACKET_A};
-use crate::lent::{filler, filler_with, Lent, LentNumber, NARROW, WIDE};
+use crate::lent::{filler, filler_with, written_or_refused, Lent, LentNumber, NARROW, WIDE};
 
 /// The frame's length and the whole output after it, or the number that refused.
 fn encode(
@@ -33,16 +33,7 @@ fn encode(
 
     let mut safe_out = Lent::room(room);
     let safe = i2c::encode(own, dest, payload, safe_out.slice(), pec);
-    assert_eq!(safe_out.bytes(), out.bytes());
-
-    if number == 0 {
-        assert_eq!(safe, Ok(written.value()));
-        return Ok((written.value(), out.bytes().to_vec()));
-    }
-    assert_eq!(safe.map_err(Error::number), Err(number));
-    written.assert_unchanged();
-    assert_eq!(out.bytes(), filler(room));
-    Err(number)
+    written_or_refused(number, &written, &out, safe, &safe_out)
 }
 
 /// The source, and the payload's place and length; or the number that refused.

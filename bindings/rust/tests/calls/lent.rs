@@ -1,5 +1,7 @@
 //! Memory to lend: bytes and single numbers with neighbours that no call may touch, filled so that every write shows.
 
+use pulevago::Error;
+
 /// How many bytes stand guard on each side, and what they hold.
 const GUARD: usize = 64;
 const GUARD_BYTE: u8 = 0xc5;
@@ -92,4 +94,24 @@ impl<T: Copy + PartialEq + std::fmt::Debug> LentNumber<T> {
     pub fn assert_unchanged(&self) {
         assert_eq!(self.value(), self.before, "a refusal wrote a lent number");
     }
+}
+
+/// What a writer's call gave, and the safe wrapper the same: the length and the whole output after it, or the number that refused,
+/// with nothing written.
+pub fn written_or_refused(
+    number: u32,
+    written: &LentNumber<usize>,
+    out: &Lent,
+    safe: Result<usize, Error>,
+    safe_out: &Lent,
+) -> Result<(usize, Vec<u8>), u32> {
+    assert_eq!(safe_out.bytes(), out.bytes());
+    if number == 0 {
+        assert_eq!(safe, Ok(written.value()));
+        return Ok((written.value(), out.bytes().to_vec()));
+    }
+    assert_eq!(safe.map_err(Error::number), Err(number));
+    written.assert_unchanged();
+    assert_eq!(out.bytes(), filler(out.length()));
+    Err(number)
 }

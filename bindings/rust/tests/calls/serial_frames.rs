@@ -1,9 +1,9 @@
 //! The frame writer.
 
-use pulevago::{ffi, serial, Error};
+use pulevago::{ffi, serial};
 
 use crate::document01::{serial_frame, FRAME_A, PACKET_A};
-use crate::lent::{filler, filler_with, Lent, LentNumber, WIDE};
+use crate::lent::{filler, filler_with, written_or_refused, Lent, LentNumber, WIDE};
 
 /// The frame's length and the whole output after it, or the number that refused.
 fn write(packet: &[u8], room: usize) -> Result<(usize, Vec<u8>), u32> {
@@ -23,16 +23,7 @@ fn write(packet: &[u8], room: usize) -> Result<(usize, Vec<u8>), u32> {
 
     let mut safe_out = Lent::room(room);
     let safe = serial::frame_to_serial(packet, safe_out.slice());
-    assert_eq!(safe_out.bytes(), out.bytes());
-
-    if number == 0 {
-        assert_eq!(safe, Ok(written.value()));
-        return Ok((written.value(), out.bytes().to_vec()));
-    }
-    assert_eq!(safe.map_err(Error::number), Err(number));
-    written.assert_unchanged();
-    assert_eq!(out.bytes(), filler(room));
-    Err(number)
+    written_or_refused(number, &written, &out, safe, &safe_out)
 }
 
 /// What the writer gives where it refuses nothing.
