@@ -35,7 +35,7 @@ module _ (bytes : List ℕ) where
   about-fit a h = ap (λ (t : Bool). cond t a (answer inconsistent [])) h
 
   pub left-fit : (s : Receiver) → sized bytes ≡ true → stateBytes s ≡ left bytes s
-  left-fit s h = ap (λ (t : Bool). cond t (stateBytes s) bytes) (sym h)
+  left-fit s h = simp h
 
   -- and in another
   pub about-unfit : (a : Answer) → sized bytes ≡ false → about bytes a ≡ answer inconsistent []

@@ -16,7 +16,7 @@ returns : tie.Need-returns
 returns c =
     let state = now (c .before .before .args .state) in
     let other = unfit state (c .if1 .taken) in
-    (number-said (about-unfit state (answer done []) other), left-unfit state freshOf other)
+    (number-said (about-unfit state _ other), left-unfit state freshOf other)
 
 fresh-requires : tie.Need-fresh-requires
 fresh-requires c κs = search needs
