@@ -8,14 +8,15 @@ use native.Mathlib.Omega.{arith}
 use lib.Dec.{eqb, leb, ltb}
 use lib.ListN.{drop, drop-of-length-le, getD, length, length-append, length-replicate, replicate}
 use Rattle.checks.specs.Laws.{Bytes}
-use Rattle.checks.specs.Numbers.{Answer, answer, badAddress, badArgument, badLength, badPacket, done, shortOutput}
+use Rattle.checks.specs.Numbers.{Answer, answer, badAddress, badArgument, badPacket, done, shortOutput}
 use Rattle.checks.specs.Output.{atStart}
 use Rattle.checks.proofs.Bytes.{bytes-replicate}
-use Rattle.serial.specs.declared.frame.Written.{Written}
-use Rattle.serial.specs.declared.frame.Written.the-variants as writer
-use Rattle.serial.specs.Answers.{writerAnswer, writtenAnswer}
-use Rattle.serial.specs.Frame.{frame}
-use Rattle.serial.specs.Writer.{outputOf, sendable}
+use Rattle.framing.specs.Numbers.{badLength}
+use Rattle.framing.specs.declared.frame.Written.{Written}
+use Rattle.framing.specs.declared.frame.Written.the-variants as writer
+use Rattle.framing.specs.Writer.{writerAnswer, writtenAnswer}
+use Rattle.framing.specs.Frame.{frame}
+use Rattle.framing.specs.Writer.{outputOf, sendable}
 use Rattle.i2c.specs.declared.encoder.Encoded.{Encoded}
 use Rattle.i2c.specs.declared.encoder.Encoded.the-variants as encoder
 use Rattle.i2c.specs.Encode.{addresses, encodeAnswer, encodeOutput, encodedAnswer}

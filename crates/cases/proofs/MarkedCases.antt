@@ -10,15 +10,15 @@ use borrow.Author.Tests.{le-leb}
 use Rattle.checks.specs.Numbers.{Answer, answer, done}
 use Rattle.checks.specs.Output.{atStart}
 use Rattle.checks.specs.Register.{bitStep, bitSteps, byteStep, checkFrom}
-use Rattle.serial.specs.declared.frame.Written.{Written}
-use Rattle.serial.specs.declared.frame.Written.the-variants as writer
-use Rattle.serial.specs.Answers.{writerAnswer, writtenAnswer}
-use Rattle.serial.specs.Frame.{Sendable, escaped, escapedAll, frame}
+use Rattle.framing.specs.declared.frame.Written.{Written}
+use Rattle.framing.specs.declared.frame.Written.the-variants as writer
+use Rattle.framing.specs.Writer.{writerAnswer, writtenAnswer}
+use Rattle.framing.specs.Frame.{Sendable, escaped, escapedAll, frame}
 use Rattle.serial.specs.Receiver.{agreesOf, consistentOf, fitsAt, rowOf, stepOf}
 use Rattle.serial.specs.Run.{outsOf, runOf}
-use Rattle.serial.specs.Writer.{outputOf, sendable}
-use Rattle.serial.proofs.Answers.{same-written}
-use Rattle.serial.proofs.FrameLaws.{frame-most}
+use Rattle.framing.specs.Writer.{outputOf, sendable}
+use Rattle.framing.proofs.Answers.{same-written}
+use Rattle.framing.proofs.FrameLaws.{frame-most}
 use Rattle.i2c.specs.declared.encoder.Encoded.{Encoded}
 use Rattle.i2c.specs.declared.encoder.Encoded.the-variants as encoder
 use Rattle.i2c.specs.Decode.{bodyAnswer, decodeAnswer as i2cAnswer, payloadPart}

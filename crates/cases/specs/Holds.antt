@@ -12,11 +12,11 @@ use Rattle.checks.specs.Numbers.{Answer}
 use Rattle.checks.specs.Output.{atStart}
 use Rattle.checks.specs.PacketErrorCode.{pecOf}
 use Rattle.checks.specs.Part.{bytesOf}
-use Rattle.serial.specs.Answers.{writerAnswer, writtenAnswer}
-use Rattle.serial.specs.Frame.{frame}
+use Rattle.framing.specs.Writer.{writerAnswer, writtenAnswer}
+use Rattle.framing.specs.Frame.{frame}
 use Rattle.serial.specs.Receiver.{freshOf}
 use Rattle.serial.specs.Run.{outsOf, runOf}
-use Rattle.serial.specs.Writer.{outputOf}
+use Rattle.framing.specs.Writer.{outputOf}
 use Rattle.i2c.specs.Decode.{decodeAnswer as i2cAnswer, payloadPart}
 use Rattle.i2c.specs.Encode.{encodeAnswer, encodeOutput, encodedAnswer}
 use Rattle.usb.specs.Builder.{appendAnswer, appendOutput, usedAfter}

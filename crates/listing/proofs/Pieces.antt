@@ -6,11 +6,11 @@ use mathlib.Core.Bool.{true}
 use mathlib.Core.List.{List, [], _∷_, _++_}
 use lib.ListN.{length, length-append}
 use Rattle.serial.specs.declared.receiver.Receiver.{Receiver}
-use Rattle.serial.specs.Demand3.{flags, placed}
-use Rattle.serial.specs.Frame.{frames}
+use Rattle.line.specs.Demand3.{flags, placed}
+use Rattle.framing.specs.Frame.{frames}
 use Rattle.serial.specs.Receiver.{consistentOf, freshOf}
 use Rattle.serial.specs.Run.{heard, outsOf, packetsOf, runOf}
-use Rattle.serial.proofs.Demand3.{demand-3-whole}
+use Rattle.line.proofs.Demand3.{demand-3-whole}
 use Rattle.serial.proofs.Keeps.{fresh-consistent, run-keeps}
 use Rattle.serial.proofs.Run.{heard-append, packets-append}
 use Rattle.listing.specs.Closing.{closingLine}

@@ -16,7 +16,7 @@ use Rattle.serial.specs.declared.receiver.Position.the-variants.{FrameSearch, S
 use Rattle.serial.specs.declared.receiver.Receiver.{Receiver}
 use Rattle.serial.specs.declared.receiver.Stepped.{Stepped}
 use Rattle.serial.specs.Consistency.{Consistent}
-use Rattle.serial.specs.Frame.{escape, escapeEscaped, flag, flagEscaped}
+use Rattle.framing.specs.Frame.{escape, escapeEscaped, flag, flagEscaped}
 use Rattle.serial.specs.Receiver.{byteCountRow, checkRow, dataEscapedRow, dataRow, frameEndRow, frameSearchRow, handsOut, rowOf, serialRevisionRow, stepOf}
 use Rattle.serial.specs.Run.{emit, outsOf, packetIn, packetsOf}
 use Rattle.serial.proofs.Consistent.{FitsAt, facts, row-of}

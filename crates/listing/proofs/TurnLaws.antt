@@ -11,10 +11,10 @@ use Rattle.serial.specs.declared.taker.Reason.{Reason}
 use Rattle.serial.specs.declared.taker.Reason.the-variants.{Packet as PacketTaken, InputEnded, AllowanceSpent, ShortOutput, Inconsistent as InconsistentTaken}
 use Rattle.serial.specs.declared.taker.Taken.{Taken}
 use Rattle.serial.specs.Consistency.{Consistent}
-use Rattle.serial.specs.Cutting.{Call, called, handed}
+use Rattle.serial.specs.Steps.{Call, called, handed}
 use Rattle.serial.specs.Run.{heard, outsOf, packetIn, packetsOf, runOf}
 use Rattle.serial.specs.Taker.{Fair, takeFrom, takenOf}
-use Rattle.serial.proofs.Cutting.{goes-on, kept, state-goes-on, takes-one, within}
+use Rattle.serial.proofs.Steps.{goes-on, kept, state-goes-on, takes-one, within}
 use Rattle.serial.proofs.Run.{any-place, packets-append}
 use Rattle.serial.proofs.TakerLaws.{packet-length, took}
 use Rattle.listing.specs.Text.{lineOf, linesOf}

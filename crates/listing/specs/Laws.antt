@@ -7,8 +7,8 @@ use lib.ListN.{length}
 use Rattle.checks.specs.Laws.{Bytes}
 use Rattle.serial.specs.declared.receiver.Receiver.{Receiver}
 use Rattle.serial.specs.Consistency.{Consistent}
-use Rattle.serial.specs.Demand3.{flags}
-use Rattle.serial.specs.Frame.{AllSendable, frames}
+use Rattle.line.specs.Demand3.{flags}
+use Rattle.framing.specs.Frame.{AllSendable, frames}
 use Rattle.serial.specs.Receiver.{freshOf}
 use Rattle.listing.specs.Closing.{closingLine, outputFor}
 use Rattle.listing.specs.Listing.{listed, roomFor, roomy, stateAfter}

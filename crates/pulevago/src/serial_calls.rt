@@ -2,8 +2,8 @@
 ghost use mathlib.Core.Path.{_≡_};
 ghost use lib.ListN.{length};
 ghost use Rattle.checks.specs.Output.{atStart};
-ghost use Rattle.serial.specs.Answers.{writerAnswer};
-ghost use Rattle.serial.specs.Frame.{frame};
+ghost use Rattle.framing.specs.Writer.{writerAnswer};
+ghost use Rattle.framing.specs.Frame.{frame};
 ghost use Rattle.serial.specs.Receiver.{freshOf};
 ghost use Rattle.pulevago.specs.Calls.{freshAnswer, handedPart, left, reasonNumber, stepAnswerIn, stepLeaves, takeAnswerIn, takeLeaves, takeOutput, takenIn, testAnswer};
 ghost use Rattle.pulevago.specs.Lent.{firstOf, given};
@@ -17,10 +17,10 @@ use crate::numbers::TOOK_PACKET;
 use crate::state::STATE_SIZE;
 use crate::state::load;
 use crate::state::store;
+use framing::Written;
 use serial::Outcome;
 use serial::Reason;
 use serial::Receiver;
-use serial::Written;
 
 // where a packet that was handed out begins in a lent state
 const PACKET_AT: usize = 6;
@@ -37,7 +37,7 @@ pub extern "C" fn pulevago_frame_to_serial(
     ensures { λ r. ⌜ now (out .exit) ≡ given r (now (out .entry)) (atStart (frame (now (packet .entry))) (now (out .entry))) ⌝ }
     ensures { λ r. ⌜ now (written .exit) ≡ given r (now (written .entry)) (firstOf (writerAnswer (now (packet .entry)) (length (now (out .entry))) .values)) ⌝ }
 {
-    match serial::frame_to_serial(packet, out) {
+    match framing::frame_to_serial(packet, out) {
         Written::Done(n) => {
             *written = n;
             DONE

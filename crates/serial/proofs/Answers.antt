@@ -1,21 +1,15 @@
--- A step's answer has document 01's number and value, given exactly when document 01 says so; and the writer's answer tells its result.
--- Assumes nothing.
+-- A step's answer has document 01's number and value, given exactly when document 01 says so. Assumes nothing.
 use Prim.Native.Nat.{ℕ}
 use mathlib.Core.Path.{_≡_, _∙_, ap, refl}
 use mathlib.Core.Bool.{Bool, true, false, cond}
 use mathlib.Core.List.{[], _∷_}
-use lib.Dec.{eqb}
-use lib.ListN.{getD}
-use Rattle.checks.specs.Numbers.{Answer, answer, badLength, done}
-use Rattle.checks.proofs.Numbers.{tells}
-use Rattle.serial.specs.declared.frame.Written.{Written}
-use Rattle.serial.specs.declared.frame.Written.the-variants.{Done, BadLength, ShortOutput}
+use Rattle.checks.specs.Numbers.{answer, done}
 use Rattle.serial.specs.declared.receiver.Outcome.the-variants.{Inconsistent, Packet}
 use Rattle.serial.specs.declared.receiver.Position.{Position}
 use Rattle.serial.specs.declared.receiver.Position.the-variants.{FrameSearch, SerialRevision, ByteCount, Data, DataEscaped, Check, FrameEnd}
 use Rattle.serial.specs.declared.receiver.Receiver.{Receiver}
 use Rattle.serial.specs.declared.receiver.Stepped.{Stepped}
-use Rattle.serial.specs.Answers.{handedAt, outcomeAnswer, stepAnswer, writtenAnswer}
+use Rattle.serial.specs.Answers.{handedAt, outcomeAnswer, stepAnswer}
 use Rattle.serial.specs.Receiver.{consistentOf, frameEndRow, freshOf, handsOut, quiet, rowOf, stepOf}
 
 -- a row hands out what is said of its position, and refuses nothing
@@ -44,17 +38,3 @@ either-answer b s false = refl
 pub step-answered : (b : ℕ) (s : Receiver) (r : Stepped) → r ≡ stepOf b s → (r ≡ stepOf b s) × (outcomeAnswer (r .outcome) ≡ stepAnswer b s)
 unfolding stepOf
 step-answered b s r e = (e, ap (λ (x : Stepped). outcomeAnswer (x .outcome)) e ∙ either-answer b s (consistentOf s))
-
--- ---- the frame writer: its answer tells its result
-
--- the result, back from its answer
-abbrev back : Answer → Written
-back a = cond (eqb (a .number) done) (Done (getD (a .values) 0 0)) (cond (eqb (a .number) badLength) BadLength ShortOutput)
-
-there-and-back : (x : Written) → back (writtenAnswer x) ≡ x
-there-and-back (Done n) = refl
-there-and-back BadLength = refl
-there-and-back ShortOutput = refl
-
-pub same-written : (x y : Written) → writtenAnswer x ≡ writtenAnswer y → x ≡ y
-same-written = tells writtenAnswer back there-and-back

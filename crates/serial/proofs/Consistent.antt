@@ -14,7 +14,7 @@ use Rattle.checks.proofs.Choice.{and, either, first, left, right, second}
 use Rattle.serial.specs.declared.receiver.Position.{Position}
 use Rattle.serial.specs.declared.receiver.Position.the-variants.{FrameSearch, SerialRevision, ByteCount, Data, DataEscaped, Check, FrameEnd}
 use Rattle.serial.specs.declared.receiver.Receiver.{Receiver}
-use Rattle.serial.specs.Frame.{revision}
+use Rattle.framing.specs.Frame.{revision}
 use Rattle.serial.specs.Receiver.{consistentOf, counted, fitsAt, inPacket, rowOf, stepOf}
 
 -- ---- facts, of a count n, a length l and the stored bytes

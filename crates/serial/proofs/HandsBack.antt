@@ -11,7 +11,7 @@ use Rattle.serial.specs.declared.receiver.Receiver.{Receiver}
 use Rattle.serial.specs.Consistency.{Consistent}
 use Rattle.serial.specs.Receiver.{consistentOf, stepOf}
 use Rattle.serial.specs.Taker.{takenOf}
-use Rattle.serial.proofs.Cutting.{count-is-steps}
+use Rattle.serial.proofs.Steps.{count-is-steps}
 use Rattle.serial.proofs.Keeps.{fresh-consistent, keeps, run-keeps}
 
 module _ (s : Receiver) (sized : length (s .stored) ≡ 259) where

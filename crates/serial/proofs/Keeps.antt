@@ -19,7 +19,7 @@ use Rattle.serial.specs.declared.receiver.Position.the-variants.{FrameSe
 use Rattle.serial.specs.declared.receiver.Receiver.{Receiver}
 use Rattle.serial.specs.declared.receiver.Outcome.the-variants.{Inconsistent}
 use Rattle.serial.specs.declared.receiver.Stepped.{Stepped}
-use Rattle.serial.specs.Frame.{flag, escape, flagEscaped, escapeEscaped, revision}
+use Rattle.framing.specs.Frame.{flag, escape, flagEscaped, escapeEscaped, revision}
 use Rattle.serial.specs.Receiver.{byteCountRow, checkRow, dataEscapedRow, dataRow, frameEndRow, frameSearchRow, freshOf, handsOut, moveTo, rowOf, serialRevisionRow, stepOf, storeData}
 use Rattle.serial.specs.Run.{runOf}
 use Rattle.serial.specs.Answers.{handedAt, outcomeAnswer}

@@ -3,13 +3,8 @@
 use mathlib.Core.Path.{_∙_, ap, sym}
 use denote.Ref.{now}
 use Rattle.checks.specs.OneResult.{OneOutcome, OneResult}
-use Rattle.serial.specs.declared.frame.Written.{Written}
 use Rattle.serial.specs.declared.taker.Taken.{Taken}
 use Rattle.serial.specs.Taker.{copiedOf}
-use Rattle.serial.specs.Writer.{outputOf}
-use Rattle.serial.proofs.Answers.{same-written}
-use Rattle.serial.proofs.frame.frame_to_serial.Kinds as frame-to-serial
-use Rattle.serial.proofs.frame.frame_to_serial.Reads as frame-to-serial-reads
 use Rattle.serial.proofs.receiver.Receiver.fresh.Kinds as fresh
 use Rattle.serial.proofs.receiver.Receiver.fresh.Reads as fresh-reads
 use Rattle.serial.proofs.receiver.Receiver.consistent.Kinds as consistent
@@ -29,11 +24,6 @@ pub step-one : OneResult 0 step.ps step.r step-reads.Post
 step-one κs a x y e f p q = p .0 ∙ sym (q .0)
 
 -- the output is the last parameter
-pub frame-to-serial-one : OneOutcome 2 frame-to-serial.ps frame-to-serial.r (λ κs e. now (e .1 .0)) frame-to-serial-reads.Post
-frame-to-serial-one κs a x y e f p q =
-    let same = same-written x y (p .0 ∙ sym (q .0)) in
-    (same, p .1 ∙ ap (λ (r : Written). outputOf r (now (a .0)) (now (a .1 .0))) same ∙ sym (q .1))
-
 pub take-one : OneOutcome 2 take.ps take.r (λ κs e. now (e .1 .1 .1 .0)) take-reads.Post
 take-one κs a x y e f p q =
     let same = p .0 ∙ sym (q .0) in

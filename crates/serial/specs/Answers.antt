@@ -3,11 +3,9 @@
 use Prim.Native.Nat.{ℕ}
 use mathlib.Core.Bool.{cond}
 use mathlib.Core.List.{List, [], _∷_}
-use lib.Dec.{leb, ltb}
+use lib.Dec.{ltb}
 use lib.ListN.{length, take}
-use Rattle.checks.specs.Numbers.{Answer, answer, badLength, done, inconsistent, shortOutput}
-use Rattle.serial.specs.declared.frame.Written.{Written}
-use Rattle.serial.specs.declared.frame.Written.the-variants.{Done, BadLength, ShortOutput}
+use Rattle.checks.specs.Numbers.{Answer, answer, done, inconsistent, shortOutput}
 use Rattle.serial.specs.declared.receiver.Outcome.{Outcome}
 use Rattle.serial.specs.declared.receiver.Outcome.the-variants.{Nothing, Packet, Inconsistent}
 use Rattle.serial.specs.declared.receiver.Position.{Position}
@@ -15,24 +13,8 @@ use Rattle.serial.specs.declared.receiver.Position.the-variants.{FrameSe
 use Rattle.serial.specs.declared.receiver.Receiver.{Receiver}
 use Rattle.serial.specs.declared.taker.Reason.{Reason}
 use Rattle.serial.specs.declared.taker.Reason.the-variants.{Packet as PacketTaken, InputEnded, AllowanceSpent, ShortOutput as ShortTaken, Inconsistent as InconsistentTaken}
-use Rattle.serial.specs.Frame.{frame}
 use Rattle.serial.specs.Receiver.{consistentOf, handsOut}
 use Rattle.serial.specs.Run.{outsOf}
-use Rattle.serial.specs.Writer.{sendable}
-
--- ---- the frame writer: the value is the frame's length
-
-abbrev pub writtenAnswer : Written → Answer
-writtenAnswer (Done n) = answer done (n ∷ [])
-writtenAnswer BadLength = answer badLength []
-writtenAnswer ShortOutput = answer shortOutput []
-
--- of a packet, into an output of `room` bytes; 1 before 2
-unfoldable pub writerAnswer : List ℕ → ℕ → Answer
-writerAnswer packet room =
-    cond (sendable packet)
-    (cond (leb (length (frame packet)) room) (answer done (length (frame packet) ∷ [])) (answer shortOutput []))
-    (answer badLength [])
 
 -- ---- a step: the value is a handed-out packet's length
 

@@ -1,14 +1,7 @@
-pub mod Frame
-pub mod FrameLaws
-pub mod Writer
 pub mod Receiver
 pub mod Run
 pub mod Core
 pub mod Taker
+pub mod Steps
 pub mod Answers
 pub mod Consistency
-pub mod Demand3
-pub mod Lost
-pub mod Computed
-pub mod Converse
-pub mod Cutting

@@ -10,7 +10,7 @@ use Rattle.serial.specs.declared.receiver.Position.the-variants.{FrameSe
 use Rattle.serial.specs.declared.receiver.Receiver.{Receiver}
 use Rattle.serial.specs.declared.receiver.Outcome.the-variants.{Nothing, Packet, Inconsistent}
 use Rattle.serial.specs.declared.receiver.Stepped.{Stepped}
-use Rattle.serial.specs.Frame.{flag, escape, flagEscaped, escapeEscaped, revision}
+use Rattle.framing.specs.Frame.{flag, escape, flagEscaped, escapeEscaped, revision}
 
 -- ---- states
 

@@ -1,12 +1,8 @@
-// The serial binding of MCTP (DSP0253): a frame writer, a receiver that takes a byte a step, and a taker over a lent input.
-mod frame;
+// The receiver of the serial binding of MCTP (DSP0253): a byte a step, and a taker over a lent input.
 mod receiver;
 mod rows;
 mod taker;
-mod wire;
 
-pub use frame::Written;
-pub use frame::frame_to_serial;
 pub use receiver::Outcome;
 pub use receiver::Position;
 pub use receiver::Receiver;

@@ -9,11 +9,11 @@ ghost use Rattle.serial.specs.declared.receiver.Outcome.the-variants.{No
 ghost use Rattle.serial.specs.Core.{Leads, held, heldStep};
 use crate::receiver::Outcome;
 use crate::receiver::Position;
-use crate::wire::ESCAPE_ESCAPED;
-use crate::wire::FLAG_ESCAPED;
-use crate::wire::FRAMING_ESCAPE;
-use crate::wire::FRAMING_FLAG;
-use crate::wire::MCTP_SERIAL_REVISION;
+use framing::ESCAPE_ESCAPED;
+use framing::FLAG_ESCAPED;
+use framing::FRAMING_ESCAPE;
+use framing::FRAMING_FLAG;
+use framing::MCTP_SERIAL_REVISION;
 
 // A receiver's state without its stored bytes.
 pub(crate) struct Head {

@@ -6,10 +6,10 @@ use crate::rooms::LONGEST;
 use crate::rooms::LONGEST_STREAM;
 use crate::states;
 use crate::text;
+use framing::Written;
 use serial::Outcome;
 use serial::Reason;
 use serial::Receiver;
-use serial::Written;
 
 // `frame PACKET ROOM`: NUMBER LENGTH OUT.
 pub(crate) fn frame(line: &[u8], out: &mut [u8]) -> usize {
@@ -30,7 +30,7 @@ pub(crate) fn frame(line: &[u8], out: &mut [u8]) -> usize {
 
 // Frames the packet into the lent output, and puts what comes of it.
 fn framed(packet: &[u8], lent: &mut [u8], out: &mut [u8]) -> usize {
-    let written = serial::frame_to_serial(packet, lent);
+    let written = framing::frame_to_serial(packet, lent);
     let answered = put_written(written, out);
     let out_at = render::space(out, answered);
     render::hex(out, out_at, lent)

@@ -1,0 +1,4 @@
+pub mod Computed
+pub mod FrameLaws
+pub mod Answers
+pub mod OneResult

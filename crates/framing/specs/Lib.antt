@@ -1,0 +1,5 @@
+pub mod Numbers
+pub mod Frame
+pub mod FrameLaws
+pub mod Writer
+pub mod Computed
