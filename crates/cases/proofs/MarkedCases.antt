@@ -15,7 +15,7 @@ use Rattle.framing.specs.declared.frame.Written.the-variants as writer
 use Rattle.framing.specs.Writer.{writerAnswer, writtenAnswer}
 use Rattle.framing.specs.Frame.{Sendable, escaped, escapedAll, frame}
 use Rattle.serial.specs.Receiver.{agreesOf, consistentOf, fitsAt, rowOf, stepOf}
-use Rattle.serial.specs.Run.{outsOf, runOf}
+use Rattle.serial.specs.Run.{outsBy, runBy}
 use Rattle.framing.specs.Writer.{outputOf, sendable}
 use Rattle.framing.proofs.Answers.{same-written}
 use Rattle.framing.proofs.FrameLaws.{frame-most}
@@ -77,11 +77,11 @@ unfolding writerAnswer frame escapedAll escaped
 case-a = written-a 516 refl
 
 case-a-back : HoldsAt 1
-unfolding outsOf runOf stepOf consistentOf fitsAt rowOf agreesOf checkFrom byteStep bitSteps bitStep
+unfolding outsBy runBy stepOf consistentOf fitsAt rowOf agreesOf checkFrom byteStep bitSteps bitStep
 case-a-back = refl
 
 case-b : HoldsAt 2
-unfolding outsOf runOf stepOf consistentOf fitsAt rowOf agreesOf checkFrom byteStep bitSteps bitStep
+unfolding outsBy runBy stepOf consistentOf fitsAt rowOf agreesOf checkFrom byteStep bitSteps bitStep
 case-b = refl
 
 -- C: a packet that is not sent, and one that is, for whose frame there is room
@@ -123,11 +123,11 @@ unfolding writerAnswer frame escapedAll escaped
 case-d-12 = written-a 12 refl
 
 case-e : HoldsAt 9
-unfolding outsOf runOf stepOf consistentOf fitsAt rowOf agreesOf checkFrom byteStep bitSteps bitStep
+unfolding outsBy runBy stepOf consistentOf fitsAt rowOf agreesOf checkFrom byteStep bitSteps bitStep
 case-e = refl
 
 case-f : HoldsAt 10
-unfolding outsOf runOf stepOf consistentOf fitsAt rowOf agreesOf checkFrom byteStep bitSteps bitStep
+unfolding outsBy runBy stepOf consistentOf fitsAt rowOf agreesOf checkFrom byteStep bitSteps bitStep
 case-f = refl
 
 case-g : HoldsAt 11
@@ -175,7 +175,7 @@ unfolding checkFrom byteStep bitSteps bitStep
 case-m-pec = refl
 
 case-n : HoldsAt 22
-unfolding outsOf runOf stepOf consistentOf fitsAt rowOf agreesOf checkFrom byteStep bitSteps bitStep
+unfolding outsBy runBy stepOf consistentOf fitsAt rowOf agreesOf checkFrom byteStep bitSteps bitStep
 case-n = refl
 
 -- ---- every row

@@ -6,12 +6,12 @@ use Rattle.line.specs.Computed.{NearMisses, ThreeHeard}
 use Rattle.line.specs.Demand3.{placed}
 use Rattle.framing.specs.Frame.{escaped, escapedAll, frame, frames}
 use Rattle.serial.specs.Receiver.{agreesOf, consistentOf, fitsAt, rowOf, stepOf}
-use Rattle.serial.specs.Run.{outsOf, runOf}
+use Rattle.serial.specs.Run.{outsBy, runBy}
 
 pub three-heard : ThreeHeard
-unfolding outsOf runOf stepOf consistentOf fitsAt rowOf agreesOf placed frames frame escapedAll escaped checkFrom byteStep bitSteps bitStep
+unfolding outsBy runBy stepOf consistentOf fitsAt rowOf agreesOf placed frames frame escapedAll escaped checkFrom byteStep bitSteps bitStep
 three-heard = (refl, refl)
 
 pub near-misses : NearMisses
-unfolding outsOf stepOf consistentOf fitsAt rowOf agreesOf checkFrom byteStep bitSteps bitStep
+unfolding outsBy stepOf consistentOf fitsAt rowOf agreesOf checkFrom byteStep bitSteps bitStep
 near-misses = (refl, refl, refl, refl)

@@ -23,7 +23,7 @@ use Rattle.serial.specs.declared.receiver.Stepped.{Stepped}
 use Rattle.framing.specs.Computed.{ending}
 use Rattle.framing.specs.Frame.{flag, revision, escapedAll, covered, checkBytes, behindFlag, escaped, frame}
 use Rattle.serial.specs.Receiver.{agreesOf, freshOf, handsOut, rowOf, stepOf, consistentOf, fitsAt}
-use Rattle.serial.specs.Run.{runOf, packetIn, emit, outsOf}
+use Rattle.serial.specs.Run.{emit, outsBy, outsOf, packetIn, runBy, runOf}
 use Rattle.line.specs.Converse.{SentAs, OnlyAsSent, AllAsSent, StreamAsSent, FlagNotNeeded, flagless}
 use Rattle.framing.proofs.FrameLaws.{frame-bytes}
 use Rattle.serial.proofs.Consistent.{FitsAt, facts, row-of}
@@ -142,7 +142,7 @@ abbrev Told : List ℕ → Type 0
 Told h = Trace h (runOf freshOf h)
 
 step-told : (h : List ℕ) (b : ℕ) → Bytes h → Told h → Told (h ++ (b ∷ []))
-unfolding runOf
+unfolding runBy
 step-told h b bytes t =
     let s = runOf freshOf h in
     let c = reachable-consistent h bytes in
@@ -157,7 +157,7 @@ told-from (b ∷ rest) h bytes t =
     (told-from rest (h ++ (b ∷ [])) (subst Bytes (sym (append-snoc h b rest)) bytes) (step-told h b (bytes-front h (b ∷ rest) bytes) t))
 
 told : (h : List ℕ) → Bytes h → Told h
-unfolding runOf
+unfolding runBy
 told h bytes = told-from h [] bytes tt
 
 pub only-as-sent : OnlyAsSent
@@ -180,7 +180,7 @@ emit-sent stream Inconsistent s i outs sent all = all
 
 -- behind the bytes h, each packet that the rest hands out is sent as it is
 sent-from : (rest h : List ℕ) → Bytes (h ++ rest) → AllAsSent (h ++ rest) (outsOf (length h) (runOf freshOf h) rest)
-unfolding outsOf runOf
+unfolding outsBy runBy
 sent-from [] h bytes = tt
 sent-from (b ∷ rest) h bytes =
     let s = runOf freshOf h in
@@ -195,7 +195,7 @@ sent-from (b ∷ rest) h bytes =
     (subst₂ AllAsSent joined next (sent-from rest (h ++ (b ∷ [])) (subst Bytes (sym joined) bytes)))
 
 pub stream-as-sent : StreamAsSent
-unfolding runOf
+unfolding runBy
 stream-as-sent stream bytes = sent-from stream [] bytes
 
 -- ---- without a flag before the revision
@@ -211,7 +211,7 @@ flagless-bytes =
     (bytes-back (flag ∷ []) (behindFlag (ending 0x00)) (frame-bytes (ending 0x00) (ending-bytes, omega arith, omega arith)))
 
 flagless-heard : outsOf 0 freshOf flagless ≡ (16, ending 0x00) ∷ []
-unfolding outsOf stepOf consistentOf fitsAt rowOf agreesOf escapedAll escaped checkFrom byteStep bitSteps bitStep
+unfolding outsBy stepOf consistentOf fitsAt rowOf agreesOf escapedAll escaped checkFrom byteStep bitSteps bitStep
 flagless-heard = refl
 
 -- the byte before the revision is the seventh

@@ -8,7 +8,7 @@ use lib.ListN.{length, drop, length-drop}
 use Rattle.checks.proofs.Bytes.{bytes-drop}
 use Rattle.serial.specs.declared.receiver.Receiver.{Receiver}
 use Rattle.serial.specs.Consistency.{Consistent}
-use Rattle.serial.specs.Run.{outsOf, runOf}
+use Rattle.serial.specs.Run.{outsBy, outsOf, runBy, runOf}
 use Rattle.serial.specs.Steps.{Call, called, handed}
 use Rattle.serial.proofs.Steps.{goes-on, kept, state-goes-on, takes-one}
 use Rattle.line.specs.Cutting.{AnyCutting, NothingLeft, WholeCutting, Willing, fedBy}
@@ -28,7 +28,7 @@ any-cutting (c ∷ cs) i s stream fits h =
     }
 
 pub whole-cutting : WholeCutting
-unfolding outsOf runOf
+unfolding outsBy runBy
 whole-cutting calls i s stream fits h e =
     let f = fedBy calls i s stream in
     let p = any-cutting calls i s stream fits h in

@@ -23,7 +23,7 @@ use Rattle.framing.specs.Computed.{ending}
 use Rattle.line.specs.Lost.{cutShort}
 use Rattle.framing.specs.Frame.{flag, escaped, escapedAll, frame, frames}
 use Rattle.serial.specs.Receiver.{agreesOf, consistentOf, fitsAt, freshOf, rowOf, stepOf}
-use Rattle.serial.specs.Run.{runOf, outsOf}
+use Rattle.serial.specs.Run.{outsBy, outsOf, runBy, runOf}
 use Rattle.serial.specs.Consistency.{Consistent}
 use Rattle.line.specs.Demand3.{placed, flags, Hears, Demand3, TwoFail, HearsFromAny, Demand3Whole, Open, HearsFromOpen}
 use Rattle.serial.proofs.Consistent.{FitsAt, facts}
@@ -111,7 +111,7 @@ demand-3-whole h bytes ps sent =
 
 -- case N's history, and case A's packet
 none-heard : outsOf 0 (runOf freshOf (cutShort ++ flags 2)) (frames (ending flag ∷ [])) ≡ []
-unfolding outsOf runOf stepOf consistentOf fitsAt rowOf agreesOf frames frame escapedAll escaped checkFrom byteStep bitSteps bitStep
+unfolding outsBy runBy stepOf consistentOf fitsAt rowOf agreesOf frames frame escapedAll escaped checkFrom byteStep bitSteps bitStep
 none-heard = refl
 
 one-placed : length (placed 0 (ending flag ∷ [])) ≡ 1

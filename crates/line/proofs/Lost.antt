@@ -12,7 +12,7 @@ use Rattle.serial.specs.declared.receiver.Position.the-variants.{FrameEnd}
 use Rattle.serial.specs.declared.receiver.Receiver.{Receiver}
 use Rattle.framing.specs.Frame.{AllSendable, Sendable, escaped, escapedAll, frame, frames}
 use Rattle.serial.specs.Receiver.{agreesOf, consistentOf, fitsAt, freshOf, rowOf, stepOf}
-use Rattle.serial.specs.Run.{outsOf, runOf}
+use Rattle.serial.specs.Run.{outsBy, outsOf, runBy, runOf}
 use Rattle.line.specs.Lost.{AllBegin01, LostPacketUnheard, LostWithoutEnd, losing, lostPacket}
 use Rattle.serial.proofs.Run.{outs-append}
 
@@ -32,31 +32,31 @@ lost = record {
 }
 
 first-leads : runOf (runOf freshOf losing) (frame lostPacket) ≡ lost
-unfolding lost runOf stepOf consistentOf fitsAt rowOf agreesOf frame escapedAll escaped checkFrom byteStep bitSteps bitStep
+unfolding lost runBy stepOf consistentOf fitsAt rowOf agreesOf frame escapedAll escaped checkFrom byteStep bitSteps bitStep
 first-leads = refl
 
 next-leads : runOf lost (frame lostPacket) ≡ lost
-unfolding lost runOf stepOf consistentOf fitsAt rowOf agreesOf frame escapedAll escaped checkFrom byteStep bitSteps bitStep
+unfolding lost runBy stepOf consistentOf fitsAt rowOf agreesOf frame escapedAll escaped checkFrom byteStep bitSteps bitStep
 next-leads = refl
 
 first-silent : (i : ℕ) → outsOf i (runOf freshOf losing) (frame lostPacket) ≡ []
-unfolding outsOf runOf stepOf consistentOf fitsAt rowOf agreesOf frame escapedAll escaped checkFrom byteStep bitSteps bitStep
+unfolding outsBy runBy stepOf consistentOf fitsAt rowOf agreesOf frame escapedAll escaped checkFrom byteStep bitSteps bitStep
 first-silent i = refl
 
 next-silent : (i : ℕ) → outsOf i lost (frame lostPacket) ≡ []
-unfolding lost outsOf stepOf consistentOf fitsAt rowOf agreesOf frame escapedAll escaped checkFrom byteStep bitSteps bitStep
+unfolding lost outsBy stepOf consistentOf fitsAt rowOf agreesOf frame escapedAll escaped checkFrom byteStep bitSteps bitStep
 next-silent i = refl
 
 -- ---- any number of them
 
 rest-silent : (k i : ℕ) → outsOf i lost (frames (replicate k lostPacket)) ≡ []
-unfolding frames outsOf
+unfolding frames outsBy
 rest-silent zero i = refl
 rest-silent (suc k) i =
     silent-append i lost lost (frame lostPacket) (frames (replicate k lostPacket)) (next-silent i) next-leads (rest-silent k _)
 
 pub lost-packet-unheard : LostPacketUnheard
-unfolding frames outsOf
+unfolding frames outsBy
 lost-packet-unheard zero = refl
 lost-packet-unheard (suc k) =
     silent-append 0 (runOf freshOf losing) lost (frame lostPacket) (frames (replicate k lostPacket)) (first-silent 0) first-leads (rest-silent k _)

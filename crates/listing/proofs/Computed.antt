@@ -2,13 +2,13 @@
 use mathlib.Core.Path.{refl}
 use Rattle.checks.specs.Register.{bitStep, bitSteps, byteStep, checkFrom}
 use Rattle.serial.specs.Receiver.{agreesOf, consistentOf, fitsAt, rowOf, stepOf}
-use Rattle.serial.specs.Run.{outsOf, packetsOf}
+use Rattle.serial.specs.Run.{outsBy, packetsOf}
 use Rattle.listing.specs.Closing.{digitsOf}
 use Rattle.listing.specs.Computed.{CaseAWritten, LargestWritten}
 use Rattle.listing.specs.Text.{hexAll, linesOf}
 
 pub case-a-written : CaseAWritten
-unfolding hexAll linesOf packetsOf digitsOf outsOf stepOf consistentOf fitsAt rowOf agreesOf checkFrom byteStep bitSteps bitStep
+unfolding hexAll linesOf packetsOf digitsOf outsBy stepOf consistentOf fitsAt rowOf agreesOf checkFrom byteStep bitSteps bitStep
 case-a-written = refl
 
 pub largest-written : LargestWritten

@@ -14,7 +14,7 @@ use Rattle.checks.proofs.Bytes.{bytes-drop}
 use Rattle.checks.proofs.Output.{length-put, put-none, put-put}
 use Rattle.serial.specs.declared.receiver.Receiver.{Receiver}
 use Rattle.serial.specs.Consistency.{Consistent}
-use Rattle.serial.specs.Run.{heard, outsOf, packetsOf, runOf}
+use Rattle.serial.specs.Run.{heard, outsBy, packetsOf, runBy, runOf}
 use Rattle.listing.specs.Text.{linesOf}
 use Rattle.listing.specs.Turn.{nextHeard, nextTaken}
 use Rattle.listing.proofs.Said.{Said}
@@ -119,7 +119,7 @@ module _ {input out₀ : List ℕ} {s₀ : Receiver} {out : List ℕ} {s : Recei
 
 -- the rest of an input whose end is reached gives nothing
 none-heard : (input : List ℕ) (s : Receiver) (place : ℕ) → length input ≤ place → heard s (drop place input) ≡ []
-unfolding outsOf packetsOf
+unfolding outsBy packetsOf
 none-heard input s place h = ap (heard s) (drop-of-length-le input {i = place} h)
 
 -- at its end all is done
@@ -127,7 +127,7 @@ pub ended : {input out₀ : List ℕ} {s₀ : Receiver} {out : List ℕ} {s : Re
     → Going input out₀ s₀ out s place used packets → length input ≤ place
     → (used ≡ length (linesOf (heard s₀ input))) × (packets ≡ length (heard s₀ input)) × (s ≡ runOf s₀ input)
     × (out ≡ putAt 0 (linesOf (heard s₀ input)) out₀)
-unfolding runOf linesOf
+unfolding runBy linesOf
 ended {input} {out₀} {s₀} {out} {s} {place} {used} g h =
     let none = none-heard input s place h in
     let no-text : linesOf (heard s (drop place input)) ≡ [] = ap linesOf none in (

@@ -9,7 +9,7 @@ use Rattle.serial.specs.declared.receiver.Receiver.{Receiver}
 use Rattle.line.specs.Demand3.{flags, placed}
 use Rattle.framing.specs.Frame.{frames}
 use Rattle.serial.specs.Receiver.{consistentOf, freshOf}
-use Rattle.serial.specs.Run.{heard, outsOf, packetsOf, runOf}
+use Rattle.serial.specs.Run.{heard, outsBy, outsOf, packetsOf, runOf}
 use Rattle.line.proofs.Demand3.{demand-3-whole}
 use Rattle.serial.proofs.Keeps.{fresh-consistent, run-keeps}
 use Rattle.serial.proofs.Run.{heard-append, packets-append}
@@ -30,7 +30,7 @@ unfolding stateAfter
 state-all input room s c r = simp (c, r)
 
 pub any-reads : AnyReads
-unfolding writtenBy countedBy joined outsOf packetsOf linesOf
+unfolding writtenBy countedBy joined outsBy packetsOf linesOf
 any-reads room s [] c h r = (refl, refl)
 any-reads room s (p ∷ ps) c h r =
     let next = runOf s p in

@@ -18,7 +18,7 @@ use Rattle.serial.specs.declared.receiver.Stepped.{Stepped}
 use Rattle.serial.specs.Consistency.{Consistent}
 use Rattle.framing.specs.Frame.{escape, escapeEscaped, flag, flagEscaped}
 use Rattle.serial.specs.Receiver.{byteCountRow, checkRow, dataEscapedRow, dataRow, frameEndRow, frameSearchRow, handsOut, rowOf, serialRevisionRow, stepOf}
-use Rattle.serial.specs.Run.{emit, outsOf, packetIn, packetsOf}
+use Rattle.serial.specs.Run.{emit, outsBy, outsOf, packetIn, packetsOf}
 use Rattle.serial.proofs.Consistent.{FitsAt, facts, row-of}
 use Rattle.serial.proofs.Keeps.{keeps}
 use Rattle.listing.specs.Laws.{TextFits}
@@ -119,7 +119,7 @@ emit-written Inconsistent s i rest = sym (zero-add _)
 
 bounded : (i : ℕ) (s : Receiver) (bytes : List ℕ) → Consistent s → Bytes bytes
     → length (linesOf (packetsOf (outsOf i s bytes))) ≤ weight s + 2 * length bytes
-unfolding outsOf linesOf packetsOf
+unfolding outsBy linesOf packetsOf
 bounded i s [] c h = omega arith
 bounded i s (b ∷ bs) c h =
     let next = stepOf b s .state in

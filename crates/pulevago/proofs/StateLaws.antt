@@ -16,7 +16,7 @@ use Rattle.serial.specs.declared.receiver.Position.the-variants.{FrameSearch, S
 use Rattle.serial.specs.declared.receiver.Receiver.{Receiver}
 use Rattle.serial.specs.Consistency.{Consistent}
 use Rattle.serial.specs.Receiver.{consistentOf, stepOf}
-use Rattle.serial.specs.Run.{runOf}
+use Rattle.serial.specs.Run.{runBy}
 use Rattle.serial.specs.Taker.{takenOf}
 use Rattle.serial.proofs.Consistent.{here-at}
 use Rattle.serial.proofs.HandsBack.{step-hands-back, taker-hands-back}
@@ -200,7 +200,7 @@ one-step s b c = simp (size-stored s (c .sized), state-back s)
 
 -- each step goes on from the state that the one before left
 pub steps-run : StepsRun
-unfolding stepsLeave runOf
+unfolding stepsLeave runBy
 steps-run s [] c small = refl
 steps-run s (b ∷ bs) c small =
     ap (stepsLeave bs) (one-step s b c) ∙ steps-run (stepOf b s .state) bs (keeps s b c (small 0)) (λ i. small (suc i))

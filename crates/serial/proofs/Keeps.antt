@@ -21,7 +21,7 @@ use Rattle.serial.specs.declared.receiver.Outcome.the-variants.{Inconsis
 use Rattle.serial.specs.declared.receiver.Stepped.{Stepped}
 use Rattle.framing.specs.Frame.{flag, escape, flagEscaped, escapeEscaped, revision}
 use Rattle.serial.specs.Receiver.{byteCountRow, checkRow, dataEscapedRow, dataRow, frameEndRow, frameSearchRow, freshOf, handsOut, moveTo, rowOf, serialRevisionRow, stepOf, storeData}
-use Rattle.serial.specs.Run.{runOf}
+use Rattle.serial.specs.Run.{runBy, runOf}
 use Rattle.serial.specs.Answers.{handedAt, outcomeAnswer}
 use Rattle.serial.specs.Consistency.{Consistent, NeverInconsistent, ReachableConsistent, StepKeeps}
 use Rattle.serial.proofs.Answers.{step-answered}
@@ -121,7 +121,7 @@ keeps s b c byte =
     (row-keeps s b (c .sized) byte (f .len-most) (f .count-most) (s .position) (f .here))
 
 pub run-keeps : (s : Receiver) (bytes : List ℕ) → Consistent s → Bytes bytes → Consistent (runOf s bytes)
-unfolding runOf
+unfolding runBy
 run-keeps s [] c h = c
 run-keeps s (b ∷ bs) c h = run-keeps (stepOf b s .state) bs (keeps s b c (h 0)) (λ i. h (suc i))
 

@@ -10,10 +10,10 @@ use Rattle.serial.specs.declared.receiver.Receiver.{Receiver}
 use Rattle.serial.specs.declared.receiver.Outcome.{Outcome}
 use Rattle.serial.specs.declared.receiver.Outcome.the-variants.{Nothing, Packet, Inconsistent}
 use Rattle.serial.specs.Receiver.{stepOf}
-use Rattle.serial.specs.Run.{emit, heard, outsOf, packetIn, packetsOf, runOf}
+use Rattle.serial.specs.Run.{emit, heard, outsBy, outsOf, packetIn, packetsOf, runBy, runOf}
 
 pub run-append : (s : Receiver) (xs ys : List ℕ) → runOf s (xs ++ ys) ≡ runOf (runOf s xs) ys
-unfolding runOf
+unfolding runBy
 run-append s [] ys = refl
 run-append s (x ∷ xs) ys = run-append (stepOf x s .state) xs ys
 
@@ -25,7 +25,7 @@ emit-append Inconsistent s i outs more = refl
 
 pub outs-append : (i : ℕ) (s : Receiver) (xs ys : List ℕ)
     → outsOf i s (xs ++ ys) ≡ outsOf i s xs ++ outsOf (i + length xs) (runOf s xs) ys
-unfolding outsOf runOf
+unfolding outsBy runBy
 outs-append i s [] ys = rw add-zero
 outs-append i s (x ∷ xs) ys =
     let next = stepOf x s .state in
@@ -50,7 +50,7 @@ emit-packets Inconsistent s i j os ps e = e
 
 -- they don't depend on where the count of places begins
 pub any-place : (i j : ℕ) (s : Receiver) (bytes : List ℕ) → packetsOf (outsOf i s bytes) ≡ packetsOf (outsOf j s bytes)
-unfolding outsOf
+unfolding outsBy
 any-place i j s [] = refl
 any-place i j s (b ∷ bs) =
     emit-packets (stepOf b s .outcome) (stepOf b s .state) i j _ _ (any-place (i + 1) (j + 1) (stepOf b s .state) bs)

@@ -19,7 +19,7 @@ use Rattle.serial.specs.declared.taker.Reason.the-variants.{ShortOutput,
 use Rattle.serial.specs.declared.taker.Taken.{Taken}
 use Rattle.serial.specs.Consistency.{Consistent}
 use Rattle.serial.specs.Receiver.{freshOf, stepOf}
-use Rattle.serial.specs.Run.{emit, outsOf, runOf}
+use Rattle.serial.specs.Run.{emit, outsBy, outsOf, runBy, runOf}
 use Rattle.serial.specs.Steps.{Call, CountIsSteps, Steps, called, handed}
 use Rattle.serial.specs.Taker.{afterStep, stop, takeFrom, takenOf}
 use Rattle.serial.proofs.Keeps.{run-keeps}
@@ -39,7 +39,7 @@ record Made (xs : List ℕ) (k : ℕ) (s : Receiver) (n : ℕ) (t : Taken) : Typ
 -- no step, and nothing handed out
 none : (xs : List ℕ) (k : ℕ) (s : Receiver) (n : ℕ) (t : Taken) → t .taken ≡ n → t .state ≡ s
     → ((i : ℕ) → handed (t .reason) (t .state) i [] ≡ []) → Made xs k s n t
-unfolding runOf outsOf
+unfolding runBy outsBy
 none xs k s n t e f g =
     record { m = 0; count = omega arith; within = zero-le; allowed = zero-le; state = f; outs = λ i. sym (g (i + 0 - 1)) }
 
@@ -47,7 +47,7 @@ none xs k s n t e f g =
 module _ (b : ℕ) (bs : List ℕ) (k : ℕ) (s : Receiver) (n : ℕ) (t : Taken) (d : Made bs k (stepOf b s .state) (n + 1) t) where
   one : (o : Outcome) (u : Taken) → stepOf b s .outcome ≡ o → u .taken ≡ n + 1 → u .state ≡ stepOf b s .state
       → ((i : ℕ) → emit o (stepOf b s .state) i [] ≡ handed (u .reason) (u .state) i []) → Made (b ∷ bs) (suc k) s n u
-  unfolding runOf outsOf
+  unfolding runBy outsBy
   one o u f e g h = record {
     m = 1;
     count = e;
@@ -60,7 +60,7 @@ module _ (b : ℕ) (bs : List ℕ) (k : ℕ) (s : Receiver) (n : ℕ) (t : Taken
   }
 
   after : (o : Outcome) → stepOf b s .outcome ≡ o → Made (b ∷ bs) (suc k) s n (afterStep o (stepOf b s .state) (n + 1) t)
-  unfolding runOf outsOf
+  unfolding runBy outsBy
   after Nothing f = record {
     m = suc (d .m);
     count = (let e = d .count in omega arith);

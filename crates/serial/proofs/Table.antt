@@ -7,7 +7,7 @@ use Rattle.checks.specs.Laws.{Bytes}
 use Rattle.serial.specs.declared.receiver.Receiver.{Receiver}
 use Rattle.serial.specs.declared.receiver.Stepped.{Stepped}
 use Rattle.serial.specs.Receiver.{rowOf, stepOf}
-use Rattle.serial.specs.Run.{runOf, emit, outsOf}
+use Rattle.serial.specs.Run.{emit, outsBy, outsOf, runBy, runOf}
 use Rattle.serial.specs.Consistency.{Consistent}
 use Rattle.serial.proofs.Consistent.{row-of}
 use Rattle.serial.proofs.Keeps.{keeps}
@@ -26,14 +26,14 @@ tableOuts i s (b ∷ bs) =
     emit (tableStep b s .outcome) (tableStep b s .state) i (tableOuts (i + 1) (tableStep b s .state) bs)
 
 pub table-run : (s : Receiver) (xs : List ℕ) → Consistent s → Bytes xs → tableRun s xs ≡ runOf s xs
-unfolding tableRun runOf
+unfolding tableRun runBy
 table-run s [] c bytes = refl
 table-run s (b ∷ bs) c bytes =
     ap (λ (r : Stepped). tableRun (r .state) bs) (sym (row-of s b (c .fits)))
     ∙ table-run (stepOf b s .state) bs (keeps s b c (bytes 0)) (λ i. bytes (suc i))
 
 pub table-outs : (i : ℕ) (s : Receiver) (xs : List ℕ) → Consistent s → Bytes xs → tableOuts i s xs ≡ outsOf i s xs
-unfolding tableOuts outsOf
+unfolding tableOuts outsBy
 table-outs i s [] c bytes = refl
 table-outs i s (b ∷ bs) c bytes =
     ap (λ (r : Stepped). emit (r .outcome) (r .state) i (tableOuts (i + 1) (r .state) bs)) (sym (row-of s b (c .fits)))

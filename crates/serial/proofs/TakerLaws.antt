@@ -22,7 +22,7 @@ use Rattle.serial.specs.declared.taker.Taken.{Taken}
 use Rattle.serial.specs.Answers.{firstLength, reasonAnswer, takerAnswer}
 use Rattle.serial.specs.Consistency.{Consistent}
 use Rattle.serial.specs.Receiver.{consistentOf, freshOf, handsOut, rowOf, stepOf}
-use Rattle.serial.specs.Run.{emit, outsOf, packetIn}
+use Rattle.serial.specs.Run.{emit, outsBy, outsOf, packetIn}
 use Rattle.serial.specs.Taker.{Fair, afterStep, copiedOf, outcomeOf, stop, takeFrom, takenOf}
 use Rattle.serial.proofs.Consistent.{facts, row-of}
 use Rattle.serial.proofs.Keeps.{keeps}
@@ -103,7 +103,7 @@ after-answer Inconsistent s n i more outs sized few h = absurd few
 -- the taker answers the first packet that one pass over the bytes allowed hands out
 first-answer : (input : List ℕ) (allowance : ℕ) (s : Receiver) (n i : ℕ) → Consistent s → Bytes input
     → reasonAnswer (takeFrom input allowance s n .reason) ≡ answer done (firstLength (outsOf i s (take allowance input)))
-unfolding takeFrom outsOf
+unfolding takeFrom outsBy
 first-answer [] allowance s n i c h = ap (λ (xs : List ℕ). answer done (firstLength (outsOf i s xs))) (sym (take-nil allowance))
 first-answer (b ∷ bs) zero s n i c h = refl
 first-answer (b ∷ bs) (suc allowance) s n i c h =

@@ -4,7 +4,7 @@ ghost use mathlib.Core.Path.{_≡_};
 ghost use mathlib.Core.Bool.{true};
 ghost use Prim.Native.Nat.{_+_, _*_, _<_, _≤_};
 ghost use lib.ListN.{length};
-ghost use Rattle.serial.specs.Receiver.{agreesOf, byteCountRow, checkRow, closing, consistentOf, dataEscapedRow, dataRow, frameSearchRow, moveTo, serialRevisionRow, stepOf, storeData};
+ghost use Rattle.serial.specs.Receiver.{agreesOf, atFrameEnd, byteCountRow, checkRow, consistentOf, dataEscapedRow, dataRow, frameSearchRow, moveTo, serialRevisionRow, stepOf, storeData};
 ghost use Rattle.serial.specs.declared.receiver.Outcome.the-variants.{Nothing};
 ghost use Rattle.serial.specs.Core.{Leads, held, heldStep};
 use crate::receiver::Outcome;
@@ -184,7 +184,7 @@ impl Head {
     // A flag hands out the packet where the check agrees, and leads to FrameSearch; any other byte leads to SerialRevision.
     fn frame_end(self, stored: &[u8], b: u8) -> Moved
         requires { ⌜ (self .count + 4 ≤ length (now stored)) × (self .count ≤ 255) ⌝ }
-        ensures { λ r. ⌜ heldStep r (now (stored .entry)) ≡ closing b (held self (now (stored .entry))) ⌝ }
+        ensures { λ r. ⌜ heldStep r (now (stored .entry)) ≡ atFrameEnd b (held self (now (stored .entry))) ⌝ }
     {
         if b == FRAMING_FLAG {
             let head = self.at(Position::FrameSearch);
