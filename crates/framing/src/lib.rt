@@ -9,3 +9,4 @@ pub use wire::FLAG_ESCAPED;
 pub use wire::FRAMING_ESCAPE;
 pub use wire::FRAMING_FLAG;
 pub use wire::MCTP_SERIAL_REVISION;
+pub use wire::PACKET_MOST;

@@ -8,3 +8,6 @@ pub const FLAG_ESCAPED: u8 = 0x5e;
 pub const ESCAPE_ESCAPED: u8 = 0x5d;
 
 pub const MCTP_SERIAL_REVISION: u8 = 0x01;
+
+// A packet on the line has at most so many bytes.
+pub const PACKET_MOST: usize = 255;

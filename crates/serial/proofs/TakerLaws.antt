@@ -17,13 +17,18 @@ use Rattle.serial.specs.declared.receiver.Receiver.{Receiver}
 use Rattle.serial.specs.declared.receiver.Outcome.{Outcome}
 use Rattle.serial.specs.declared.receiver.Outcome.the-variants.{Nothing, Packet, Inconsistent}
 use Rattle.serial.specs.declared.receiver.Stepped.{Stepped}
-use Rattle.serial.specs.declared.taker.Reason.the-variants.{InputEnded, AllowanceSpent, ShortOutput, Inconsistent as InconsistentTaken}
+use Rattle.serial.specs.declared.taker.Cause.{Cause}
+use Rattle.serial.specs.declared.taker.Cause.the-variants.{Packet as PacketEnds, InputEnded as EndedInput, AllowanceSpent as SpentAllowance}
+use Rattle.serial.specs.declared.taker.Reason.{Reason}
+use Rattle.serial.specs.declared.taker.Reason.the-variants.{Packet as PacketTaken, InputEnded, AllowanceSpent, ShortOutput, Inconsistent as InconsistentTaken}
+use Rattle.serial.specs.declared.taker.Stopped.{Stopped}
 use Rattle.serial.specs.declared.taker.Taken.{Taken}
 use Rattle.serial.specs.Answers.{firstLength, reasonAnswer, takerAnswer}
 use Rattle.serial.specs.Consistency.{Consistent}
+use Rattle.serial.specs.Core.{Bounded, held, heldTaken, lastOf, reasonOf}
 use Rattle.serial.specs.Receiver.{consistentOf, freshOf, handsOut, rowOf, stepOf}
 use Rattle.serial.specs.Run.{emit, outsBy, outsOf, packetIn}
-use Rattle.serial.specs.Taker.{Fair, afterStep, copiedOf, outcomeOf, stop, takeFrom, takenOf}
+use Rattle.serial.specs.Taker.{afterStep, copiedOf, stop, takeFrom, takenOf}
 use Rattle.serial.proofs.Consistent.{facts, row-of}
 use Rattle.serial.proofs.Keeps.{keeps}
 
@@ -75,19 +80,26 @@ fair-step b s c =
     subst (λ (r : Stepped). FairOutcome (r .outcome)) (sym (row-of s b (c .fits)))
     (fair-row (s .position) b s (facts s (c .fits) .count-most))
 
--- so does the taker
-fair-after : (o : Outcome) (s : Receiver) (n : ℕ) (more : Taken) → FairOutcome o → Fair (more .reason) → Fair (afterStep o s n more .reason)
-fair-after Nothing s n more h k = k
-fair-after (Packet j) s n more h k = h
-fair-after Inconsistent s n more h k = absurd h
+-- so a packet that the taker hands out has at most 255 bytes
+abbrev Few : Reason → Type 0
+Few (PacketTaken n) = n ≤ 255
+Few InputEnded = Unit {0}
+Few AllowanceSpent = Unit {0}
+Few ShortOutput = Unit {0}
+Few InconsistentTaken = Unit {0}
 
-fair : (input : List ℕ) (allowance : ℕ) (s : Receiver) (n : ℕ) → Consistent s → Bytes input → Fair (takeFrom input allowance s n .reason)
+few-after : (o : Outcome) (s : Receiver) (n : ℕ) (more : Taken) → FairOutcome o → Few (more .reason) → Few (afterStep o s n more .reason)
+few-after Nothing s n more h k = k
+few-after (Packet j) s n more h k = h
+few-after Inconsistent s n more h k = tt
+
+few : (input : List ℕ) (allowance : ℕ) (s : Receiver) (n : ℕ) → Consistent s → Bytes input → Few (takeFrom input allowance s n .reason)
 unfolding takeFrom
-fair [] allowance s n c h = tt
-fair (b ∷ bs) zero s n c h = tt
-fair (b ∷ bs) (suc allowance) s n c h =
-    fair-after (stepOf b s .outcome) (stepOf b s .state) (n + 1) (takeFrom bs allowance (stepOf b s .state) (n + 1)) (fair-step b s c)
-    (fair bs allowance (stepOf b s .state) (n + 1) (keeps s b c (h 0)) (λ i. h (suc i)))
+few [] allowance s n c h = tt
+few (b ∷ bs) zero s n c h = tt
+few (b ∷ bs) (suc allowance) s n c h =
+    few-after (stepOf b s .outcome) (stepOf b s .state) (n + 1) (takeFrom bs allowance (stepOf b s .state) (n + 1)) (fair-step b s c)
+    (few bs allowance (stepOf b s .state) (n + 1) (keeps s b c (h 0)) (λ i. h (suc i)))
 
 -- a handed-out packet has as many bytes as is said
 pub packet-length : (s : Receiver) (n : ℕ) → length (s .stored) ≡ 259 → n ≤ 255 → length (packetIn n s) ≡ n
@@ -114,34 +126,56 @@ first-answer (b ∷ bs) (suc allowance) s n i c h =
 
 -- both, of what is taken from a state
 abbrev pub Took : List ℕ → ℕ → Receiver → Taken → Type 0
-Took input allowance s t = Fair (t .reason) × (reasonAnswer (t .reason) ≡ answer done (firstLength (outsOf 0 s (take allowance input))))
+Took input allowance s t = Few (t .reason) × (reasonAnswer (t .reason) ≡ answer done (firstLength (outsOf 0 s (take allowance input))))
 
 pub took : (input : List ℕ) (allowance : ℕ) (s : Receiver) → Consistent s → Bytes input → Took input allowance s (takeFrom input allowance s 0)
-took input allowance s c h = (fair input allowance s 0 c h, first-answer input allowance s 0 0 c h)
+took input allowance s c h = (few input allowance s 0 c h, first-answer input allowance s 0 0 c h)
 
--- with the definition's result
-abbrev pub TakenFrom : List ℕ → ℕ → Receiver → Taken → Type 0
-TakenFrom input allowance s t = (t ≡ takeFrom input allowance s 0) × Took input allowance s t
+-- what the core's loop promises, with the definition's result
+bounded : (c : Cause) → Few (reasonOf c) → Bounded c
+bounded (PacketEnds n) h = h
+bounded EndedInput h = tt
+bounded SpentAllowance h = tt
 
-pub taken-from : (input : List ℕ) (allowance : ℕ) (s : Receiver) (t : Taken) → t ≡ takeFrom input allowance s 0
-    → Took input allowance s (takeFrom input allowance s 0) → TakenFrom input allowance s t
-taken-from input allowance s t e h = (e, subst (Took input allowance s) (sym e) h)
+pub stopped-from : (input : List ℕ) (allowance : ℕ) (s t : Receiver) (c : Cause) (n : ℕ) → stop (reasonOf c) n t ≡ takeFrom input allowance s 0
+    → Took input allowance s (takeFrom input allowance s 0)
+    → (stop (reasonOf c) n t ≡ takeFrom input allowance s 0)
+    × (Bounded c × (reasonAnswer (reasonOf c) ≡ answer done (firstLength (outsOf 0 s (take allowance input)))))
+stopped-from input allowance s t c n e h =
+    let here = subst (Took input allowance s) (sym e) h in
+    (e, (bounded c (here .0), here .1))
 
 -- ---- taking one byte is a step
 
 -- the last step made, of what was taken
-abbrev pub stepped : Taken → Stepped
-stepped t = record { outcome = outcomeOf (t .reason); state = t .state }
+back : Reason → Outcome
+back (PacketTaken n) = Packet n
+back InputEnded = Nothing
+back AllowanceSpent = Nothing
+back ShortOutput = Inconsistent
+back InconsistentTaken = Inconsistent
 
-last-step : (o : Outcome) (s : Receiver) → Fair (afterStep o s 1 (stop InputEnded 1 s) .reason)
-    → stepped (afterStep o s 1 (stop InputEnded 1 s)) ≡ record { outcome = o; state = s }
-last-step Nothing s h = refl
-last-step (Packet n) s h = refl
-last-step Inconsistent s h = absurd h
+abbrev stepped : Taken → Stepped
+stepped t = record { outcome = back (t .reason); state = t .state }
 
-pub one-taken : (b : ℕ) (s : Receiver) (t : Taken) → t ≡ takeFrom (b ∷ []) 1 s 0 → Fair (t .reason) → stepped t ≡ stepOf b s
+last-step : (o : Outcome) (s : Receiver) → stepped (afterStep o s 1 (stop InputEnded 1 s)) ≡ record { outcome = o; state = s }
+unfolding back
+last-step Nothing s = refl
+last-step (Packet n) s = refl
+last-step Inconsistent s = refl
+
+last-back : (c : Cause) → lastOf c ≡ back (reasonOf c)
+unfolding back
+last-back (PacketEnds n) = refl
+last-back EndedInput = refl
+last-back SpentAllowance = refl
+
+pub one-taken : (b : ℕ) (s : Receiver) (t : Stopped) (stored : List ℕ) → heldTaken t stored ≡ takeFrom (b ∷ []) 1 s 0
+    → record { outcome = lastOf (t .cause); state = held (t .head) stored } ≡ stepOf b s
 unfolding takeFrom
-one-taken b s t e h = ap stepped e ∙ last-step (stepOf b s .outcome) (stepOf b s .state) (subst (λ (x : Taken). Fair (x .reason)) e h)
+one-taken b s t stored e =
+    ap (λ (o : Outcome). record { outcome = o; state = held (t .head) stored }) (last-back (t .cause))
+    ∙ ap stepped e ∙ last-step (stepOf b s .outcome) (stepOf b s .state)
 
 -- ---- what the taker says
 
@@ -153,13 +187,11 @@ Said input allowance s out t left =
 
 module _ (input : List ℕ) (allowance : ℕ) (s : Receiver) (out : List ℕ) (t : Taken) where
   -- of bytes taken
-  pub taken-said : (left : List ℕ) → consistentOf s ≡ true → 255 ≤ length out → TakenFrom input allowance s t → left ≡ copiedOf (t .reason) (t .state) out
+  pub taken-said : (left : List ℕ) → consistentOf s ≡ true → 255 ≤ length out → t ≡ takeFrom input allowance s 0
+      → reasonAnswer (t .reason) ≡ answer done (firstLength (outsOf 0 s (take allowance input))) → left ≡ copiedOf (t .reason) (t .state) out
       → Said input allowance s out t left
   unfolding takenOf
-  taken-said left c room e g = (
-    simp (c, le-ltb (length out) 255 room) (e .0),
-    (g, simp (c, le-ltb (length out) 255 room) (e .1 .1)),
-  )
+  taken-said left c room e f g = (simp (c, le-ltb (length out) 255 room) e, (g, simp (c, le-ltb (length out) 255 room) f))
 
   -- too little room
   pub short-said : consistentOf s ≡ true → length out < 255 → t ≡ stop ShortOutput 0 s → Said input allowance s out t out

@@ -1,5 +1,5 @@
 -- What the taker does: steps over the input's bytes, until a packet, the input's end or the allowance's. Assumes nothing.
-use Prim.Native.Nat.{ℕ, zero, suc, _+_, _≤_}
+use Prim.Native.Nat.{ℕ, zero, suc, _+_}
 use mathlib.Core.Bool.{cond}
 use mathlib.Core.List.{List, [], _∷_}
 use lib.Dec.{ltb}
@@ -13,6 +13,7 @@ use Rattle.serial.specs.declared.taker.Taken.{Taken}
 use Rattle.serial.specs.Receiver.{stepOf, freshOf, consistentOf}
 use Rattle.serial.specs.Run.{packetIn}
 
+-- it stops: why, after how many steps, and in which state
 abbrev pub stop : Reason → ℕ → Receiver → Taken
 stop why n s = record { reason = why; taken = n; state = s }
 
@@ -22,28 +23,12 @@ afterStep Nothing s n more = more
 afterStep (Packet k) s n more = stop (PacketTaken k) n s
 afterStep Inconsistent s n more = stop InconsistentTaken n s
 
--- what the last step gave: a packet, or nothing, where none was refused
-abbrev pub outcomeOf : Reason → Outcome
-outcomeOf (PacketTaken n) = Packet n
-outcomeOf InputEnded = Nothing
-outcomeOf AllowanceSpent = Nothing
-outcomeOf ShortOutput = Nothing
-outcomeOf InconsistentTaken = Nothing
-
 -- over the bytes that are left, with the allowance that is left, when n steps are made
 unfoldable pub takeFrom : List ℕ → ℕ → Receiver → ℕ → Taken
 takeFrom [] allowance s n = stop InputEnded n s
 takeFrom (b ∷ bs) zero s n = stop AllowanceSpent n s
 takeFrom (b ∷ bs) (suc allowance) s n =
     afterStep (stepOf b s .outcome) (stepOf b s .state) (n + 1) (takeFrom bs allowance (stepOf b s .state) (n + 1))
-
--- from a consistent state: a packet of at most 255 bytes, the input's end or the allowance's, and no refusal
-abbrev pub Fair : Reason → Type 0
-Fair (PacketTaken n) = n ≤ 255
-Fair InputEnded = Unit {0}
-Fair AllowanceSpent = Unit {0}
-Fair ShortOutput = ⊥
-Fair InconsistentTaken = ⊥
 
 -- with an output of `room` bytes: the state is tested before the room
 unfoldable pub takenOf : List ℕ → ℕ → ℕ → Receiver → Taken

@@ -2,13 +2,20 @@
 // are lent: a byte copies no state.
 ghost use mathlib.Core.Path.{_≡_};
 ghost use mathlib.Core.Bool.{true};
-ghost use Prim.Native.Nat.{_+_, _*_, _<_, _≤_};
-ghost use lib.ListN.{length};
-ghost use Rattle.serial.specs.Receiver.{agreesOf, atFrameEnd, byteCountRow, checkRow, consistentOf, dataEscapedRow, dataRow, frameSearchRow, moveTo, serialRevisionRow, stepOf, storeData};
-ghost use Rattle.serial.specs.declared.receiver.Outcome.the-variants.{Nothing};
-ghost use Rattle.serial.specs.Core.{Leads, held, heldStep};
-use crate::receiver::Outcome;
+ghost use mathlib.Core.List.{List};
+ghost use Prim.Native.Nat.{ℕ, _+_, _*_, _<_, _≤_};
+ghost use lib.ListN.{length, take};
+ghost use Rattle.checks.specs.Numbers.{answer, done};
+ghost use Rattle.serial.specs.Answers.{firstLength, reasonAnswer};
+ghost use Rattle.serial.specs.Receiver.{agreesOf, atFrameEnd, byteCountRow, changed, checkRow, consistentOf, dataEscapedRow, dataRow, frameSearchRow, moveTo, serialRevisionRow, stepOf, storeUntil, storedSize};
+ghost use Rattle.serial.specs.Core.{Bounded, Leads, held, heldStep, heldTaken, reasonOf};
+ghost use Rattle.serial.specs.Run.{outsOf};
+ghost use Rattle.serial.specs.Taker.{takeFrom};
 use crate::receiver::Position;
+use crate::receiver::Receiver;
+use crate::receiver::STORED_SIZE;
+use crate::taker::Cause;
+use crate::taker::Stopped;
 use framing::ESCAPE_ESCAPED;
 use framing::FLAG_ESCAPED;
 use framing::FRAMING_ESCAPE;
@@ -22,54 +29,56 @@ pub(crate) struct Head {
     pub(crate) len: usize,
 }
 
+// What a byte gives from a consistent state: nothing, or a packet of so many bytes.
+pub(crate) enum Event {
+    Nothing,
+    Packet(usize),
+}
+
 // What a byte gives, and the head after it.
 pub(crate) struct Moved {
-    pub(crate) outcome: Outcome,
+    pub(crate) event: Event,
     pub(crate) head: Head,
 }
 
-// Nothing is handed out.
-fn nothing(head: Head) -> Moved
-    ensures { λ r. ⌜ r ≡ record { outcome = Nothing; head = head } ⌝ }
-{
-    Moved {
-        outcome: Outcome::Nothing,
-        head,
-    }
-}
-
 impl Head {
+    // The same with another position, count and stored length, whatever is stored.
+    fn changed(self, position: Position, count: usize, len: usize) -> Head
+        ensures { λ r. ⌜ ((stored : List ℕ) → held r stored ≡ changed position count len stored (held self stored)) ⌝ }
+    {
+        Head {
+            position,
+            count,
+            len,
+        }
+    }
+
     // The same at another position.
     fn at(self, position: Position) -> Head
         ensures { λ r. ⌜ Leads (moveTo position) self r ⌝ }
     {
-        Head {
-            position,
-            count: self.count,
-            len: self.len,
-        }
+        self.changed(position, self.count, self.len)
     }
 
-    // A packet's byte is stored; Check once the count is reached.
-    fn store_data(self, stored: &mut [u8], b: u8) -> Head
-        requires { ⌜ (self .len < length (now stored)) × (self .len < 259) × (self .count ≤ 255) ⌝ }
-        ensures { λ r. ⌜ held r (now (stored .exit)) ≡ storeData b (held self (now (stored .entry))) ⌝ }
+    // A byte is stored; then the position is `full` once the stored length is the count and `more`, until then `short`.
+    fn store_until(
+        self,
+        stored: &mut [u8],
+        b: u8,
+        more: usize,
+        full: Position,
+        short: Position,
+    ) -> Head
+        requires { ⌜ (self .len < length (now stored)) × (self .len < storedSize) × (self .count ≤ 255) × (more ≤ 4) ⌝ }
+        ensures { λ r. ⌜ held r (now (stored .exit)) ≡ storeUntil more full short b (held self (now (stored .entry))) ⌝ }
     {
         let count = self.count;
         let len = self.len;
         stored[len] = b;
-        if len + 1 == count + 2 {
-            Head {
-                position: Position::Check,
-                count,
-                len: len + 1,
-            }
+        if len + 1 == count + more {
+            self.changed(full, count, len + 1)
         } else {
-            Head {
-                position: Position::Data,
-                count,
-                len: len + 1,
-            }
+            self.changed(short, count, len + 1)
         }
     }
 
@@ -100,39 +109,31 @@ impl Head {
     {
         stored[0] = b;
         if b == MCTP_SERIAL_REVISION {
-            begun(Position::ByteCount)
+            self.changed(Position::ByteCount, 0, 1)
         } else if b == FRAMING_FLAG {
-            begun(Position::SerialRevision)
+            self.changed(Position::SerialRevision, 0, 1)
         } else {
-            begun(Position::FrameSearch)
+            self.changed(Position::FrameSearch, 0, 1)
         }
     }
 
     // A zero leads to FrameSearch and stores nothing; any other byte, also a flag or an escape, is the count.
     fn byte_count(self, stored: &mut [u8], b: u8) -> Head
-        requires { ⌜ (self .len < length (now stored)) × (self .len < 259) ⌝ }
+        requires { ⌜ (self .len < length (now stored)) × (self .len < storedSize) ⌝ }
         ensures { λ r. ⌜ held r (now (stored .exit)) ≡ byteCountRow b (held self (now (stored .entry))) ⌝ }
     {
         let len = self.len;
         if b == 0 {
-            Head {
-                position: Position::FrameSearch,
-                count: 0,
-                len,
-            }
+            self.changed(Position::FrameSearch, 0, len)
         } else {
             stored[len] = b;
-            Head {
-                position: Position::Data,
-                count: b as usize,
-                len: len + 1,
-            }
+            self.changed(Position::Data, b as usize, len + 1)
         }
     }
 
     // A flag opens the next frame, an escape leads to DataEscaped, any other byte is stored.
     fn data(self, stored: &mut [u8], b: u8) -> Head
-        requires { ⌜ (self .len < length (now stored)) × (self .len < 259) × (self .count ≤ 255) ⌝ }
+        requires { ⌜ (self .len < length (now stored)) × (self .len < storedSize) × (self .count ≤ 255) ⌝ }
         ensures { λ r. ⌜ held r (now (stored .exit)) ≡ dataRow b (held self (now (stored .entry))) ⌝ }
     {
         if b == FRAMING_FLAG {
@@ -140,19 +141,19 @@ impl Head {
         } else if b == FRAMING_ESCAPE {
             self.at(Position::DataEscaped)
         } else {
-            self.store_data(stored, b)
+            self.store_until(stored, b, 2, Position::Check, Position::Data)
         }
     }
 
     // The two escaped bytes are stored as what they stand for; any other byte, also a flag, leads to FrameSearch.
     fn data_escaped(self, stored: &mut [u8], b: u8) -> Head
-        requires { ⌜ (self .len < length (now stored)) × (self .len < 259) × (self .count ≤ 255) ⌝ }
+        requires { ⌜ (self .len < length (now stored)) × (self .len < storedSize) × (self .count ≤ 255) ⌝ }
         ensures { λ r. ⌜ held r (now (stored .exit)) ≡ dataEscapedRow b (held self (now (stored .entry))) ⌝ }
     {
         if b == FLAG_ESCAPED {
-            self.store_data(stored, FRAMING_FLAG)
+            self.store_until(stored, FRAMING_FLAG, 2, Position::Check, Position::Data)
         } else if b == ESCAPE_ESCAPED {
-            self.store_data(stored, FRAMING_ESCAPE)
+            self.store_until(stored, FRAMING_ESCAPE, 2, Position::Check, Position::Data)
         } else {
             self.at(Position::FrameSearch)
         }
@@ -160,25 +161,10 @@ impl Head {
 
     // Any byte is a check byte; FrameEnd behind the second.
     fn check(self, stored: &mut [u8], b: u8) -> Head
-        requires { ⌜ (self .len < length (now stored)) × (self .len < 259) × (self .count ≤ 255) ⌝ }
+        requires { ⌜ (self .len < length (now stored)) × (self .len < storedSize) × (self .count ≤ 255) ⌝ }
         ensures { λ r. ⌜ held r (now (stored .exit)) ≡ checkRow b (held self (now (stored .entry))) ⌝ }
     {
-        let count = self.count;
-        let len = self.len;
-        stored[len] = b;
-        if len + 1 == count + 4 {
-            Head {
-                position: Position::FrameEnd,
-                count,
-                len: len + 1,
-            }
-        } else {
-            Head {
-                position: Position::Check,
-                count,
-                len: len + 1,
-            }
-        }
+        self.store_until(stored, b, 4, Position::FrameEnd, Position::Check)
     }
 
     // A flag hands out the packet where the check agrees, and leads to FrameSearch; any other byte leads to SerialRevision.
@@ -190,43 +176,102 @@ impl Head {
             let head = self.at(Position::FrameSearch);
             if self.agrees(stored) {
                 Moved {
-                    outcome: Outcome::Packet(self.count),
+                    event: Event::Packet(self.count),
                     head,
                 }
             } else {
-                nothing(head)
+                Moved {
+                    event: Event::Nothing,
+                    head,
+                }
             }
         } else {
-            nothing(self.at(Position::SerialRevision))
+            let head = self.at(Position::SerialRevision);
+            Moved {
+                event: Event::Nothing,
+                head,
+            }
         }
     }
 
     // One byte from a consistent state: the row of its position.
     pub(crate) fn advance(self, stored: &mut [u8], b: u8) -> Moved
-        requires { ⌜ (length (now stored) ≡ 259) × (consistentOf (held self (now stored)) ≡ true) ⌝ }
+        requires { ⌜ (length (now stored) ≡ storedSize) × (consistentOf (held self (now stored)) ≡ true) ⌝ }
         ensures { λ r. ⌜ heldStep r (now (stored .exit)) ≡ stepOf b (held self (now (stored .entry))) ⌝ }
     {
         let position = self.position;
         match position {
-            Position::FrameSearch => nothing(self.frame_search(b)),
-            Position::SerialRevision => nothing(self.serial_revision(stored, b)),
-            Position::ByteCount => nothing(self.byte_count(stored, b)),
-            Position::Data => nothing(self.data(stored, b)),
-            Position::DataEscaped => nothing(self.data_escaped(stored, b)),
-            Position::Check => nothing(self.check(stored, b)),
+            Position::FrameSearch => Moved {
+                event: Event::Nothing,
+                head: self.frame_search(b),
+            },
+            Position::SerialRevision => Moved {
+                event: Event::Nothing,
+                head: self.serial_revision(stored, b),
+            },
+            Position::ByteCount => Moved {
+                event: Event::Nothing,
+                head: self.byte_count(stored, b),
+            },
+            Position::Data => Moved {
+                event: Event::Nothing,
+                head: self.data(stored, b),
+            },
+            Position::DataEscaped => Moved {
+                event: Event::Nothing,
+                head: self.data_escaped(stored, b),
+            },
+            Position::Check => Moved {
+                event: Event::Nothing,
+                head: self.check(stored, b),
+            },
             Position::FrameEnd => self.frame_end(stored, b),
         }
     }
-}
 
-// The head behind the first stored byte.
-fn begun(position: Position) -> Head
-    ensures { λ r. ⌜ r ≡ record { position = position; count = 0; len = 1 } ⌝ }
-{
-    Head {
-        position,
-        count: 0,
-        len: 1,
+    // Takes bytes from a consistent state: the count of those taken is the number of steps made.
+    pub(crate) fn take_bytes(self, stored: &mut [u8], input: &[u8], allowance: usize) -> Stopped
+        requires { ⌜ (length (now stored) ≡ storedSize) × (consistentOf (held self (now stored)) ≡ true) ⌝ }
+        ensures { λ r. ⌜ heldTaken r (now (stored .exit)) ≡ takeFrom (now (input .entry)) allowance (held self (now (stored .entry))) 0 ⌝ }
+        ensures { λ r. ⌜ Bounded (r .cause) ⌝ }
+        ensures { λ r. ⌜ reasonAnswer (reasonOf (r .cause)) ≡ answer done (firstLength (outsOf 0 (held self (now (stored .entry))) (take allowance (now (input .entry))))) ⌝ }
+    {
+        let mut head = self;
+        let mut i = 0;
+        let cause = loop {
+            if input.len() <= i {
+                break Cause::InputEnded;
+            }
+            if allowance <= i {
+                break Cause::AllowanceSpent;
+            }
+            let moved = head.advance(stored, input[i]);
+            head = moved.head;
+            i += 1;
+            let event = moved.event;
+            match event {
+                Event::Nothing => {}
+                Event::Packet(n) => break Cause::Packet(n),
+            }
+        };
+        Stopped {
+            cause,
+            taken: i,
+            head,
+        }
+    }
+
+    // The state with these stored bytes.
+    pub(crate) fn with(self, stored: [u8; STORED_SIZE]) -> Receiver
+        ensures { λ r. ⌜ r ≡ held self stored ⌝ }
+    {
+        let position = self.position;
+        Receiver {
+            position,
+            count: self.count,
+            len: self.len,
+            stored,
+        }
     }
 }
 

@@ -1,14 +1,12 @@
-// The taker: bytes of a lent input to a receiver, until a packet is handed out, the input ends, or an allowance is spent.
+// What the taker answers: why it stopped, how many bytes it took, and the state after them. The taker itself is `Receiver::take`.
 ghost use mathlib.Core.Path.{_≡_};
-ghost use mathlib.Core.Bool.{true};
 ghost use Prim.Native.Nat.{_≤_};
-ghost use lib.ListN.{length, take};
-ghost use Rattle.checks.specs.Numbers.{answer, done};
-ghost use Rattle.serial.specs.Answers.{firstLength, reasonAnswer, takerAnswer};
-ghost use Rattle.serial.specs.Receiver.{consistentOf};
-ghost use Rattle.serial.specs.Run.{outsOf};
-ghost use Rattle.serial.specs.Core.{held, heldTaken};
-ghost use Rattle.serial.specs.Taker.{Fair, copiedOf, outcomeOf, takeFrom, takenOf};
+ghost use lib.ListN.{length};
+ghost use Rattle.checks.specs.Numbers.{valueOf};
+ghost use Rattle.serial.specs.Answers.{reasonAnswer};
+ghost use Rattle.serial.specs.Core.{Bounded, held, lastOf, reasonOf};
+ghost use Rattle.serial.specs.Receiver.{storedSize};
+ghost use Rattle.serial.specs.Taker.{copiedOf};
 ghost use Rattle.serial.specs.declared.rows.Head.{Head};
 use crate::receiver::Outcome;
 use crate::receiver::Receiver;
@@ -29,117 +27,82 @@ pub struct Taken {
     pub state: Receiver,
 }
 
+// Why taking bytes from a consistent state stopped.
+pub(crate) enum Cause {
+    Packet(usize),
+    InputEnded,
+    AllowanceSpent,
+}
+
 // What taking bytes gives, and the head after it.
 pub(crate) struct Stopped {
-    pub(crate) reason: Reason,
+    pub(crate) cause: Cause,
     pub(crate) taken: usize,
     pub(crate) head: Head,
 }
 
 impl Reason {
-    // What the last step gave: a packet, or nothing, as from a consistent state none is refused.
-    pub(crate) fn outcome(self) -> Outcome
-        ensures { λ r. ⌜ r ≡ outcomeOf self ⌝ }
+    // The number of the answer (document 01, 'Numbers given back').
+    pub fn number(self) -> u32
+        ensures { λ r. ⌜ r ≡ reasonAnswer self .number ⌝ }
     {
         match self {
-            Reason::Packet(n) => Outcome::Packet(n),
-            Reason::InputEnded => Outcome::Nothing,
-            Reason::AllowanceSpent => Outcome::Nothing,
-            Reason::ShortOutput => Outcome::Nothing,
-            Reason::Inconsistent => Outcome::Nothing,
+            Reason::Packet(_) => 0,
+            Reason::InputEnded => 0,
+            Reason::AllowanceSpent => 0,
+            Reason::ShortOutput => 2,
+            Reason::Inconsistent => 9,
         }
     }
-}
 
-impl Head {
-    // Takes bytes from a consistent state: the count of those taken is the number of steps made.
-    pub(crate) fn take_bytes(self, stored: &mut [u8], input: &[u8], allowance: usize) -> Stopped
-        requires { ⌜ (length (now stored) ≡ 259) × (consistentOf (held self (now stored)) ≡ true) ⌝ }
-        ensures { λ r. ⌜ heldTaken r (now (stored .exit)) ≡ takeFrom (now (input .entry)) allowance (held self (now (stored .entry))) 0 ⌝ }
-        ensures { λ r. ⌜ Fair (r .reason) ⌝ }
-        ensures { λ r. ⌜ reasonAnswer (r .reason) ≡ answer done (firstLength (outsOf 0 (held self (now (stored .entry))) (take allowance (now (input .entry))))) ⌝ }
+    // The packet's length; 0 where there is none.
+    pub fn value(self) -> usize
+        ensures { λ r. ⌜ r ≡ valueOf (reasonAnswer self) ⌝ }
     {
-        let mut head = self;
-        let mut i = 0;
-        let reason = loop {
-            if input.len() <= i {
-                break Reason::InputEnded;
-            }
-            if allowance <= i {
-                break Reason::AllowanceSpent;
-            }
-            let moved = head.advance(stored, input[i]);
-            head = moved.head;
-            i += 1;
-            let outcome = moved.outcome;
-            match outcome {
-                Outcome::Nothing => {}
-                Outcome::Packet(n) => break Reason::Packet(n),
-                // it never comes: the state stays consistent
-                Outcome::Inconsistent => break Reason::Inconsistent,
-            }
-        };
-        Stopped {
-            reason,
-            taken: i,
-            head,
+        match self {
+            Reason::Packet(n) => n,
+            Reason::InputEnded => 0,
+            Reason::AllowanceSpent => 0,
+            Reason::ShortOutput => 0,
+            Reason::Inconsistent => 0,
         }
     }
 }
 
-// A packet that was taken is copied from the stored bytes, where it begins at place 2, to the start of the output.
-fn copy_packet(reason: Reason, stored: &[u8], out: &mut [u8])
-    requires { ⌜ Fair reason × (length (now stored) ≡ 259) × (255 ≤ length (now out)) ⌝ }
-    ensures { λ r. ⌜ ((head : Head) → now (out .exit) ≡ copiedOf reason (held head (now (stored .entry))) (now (out .entry))) ⌝ }
-{
-    match reason {
-        Reason::Packet(n) => {
-            bytes::copy(&stored[2..n + 2], out);
-        }
-        Reason::InputEnded => {}
-        Reason::AllowanceSpent => {}
-        Reason::ShortOutput => {}
-        Reason::Inconsistent => {}
-    }
-}
-
-impl Receiver {
-    // Takes bytes of the input until a packet is handed out, the input ends or the allowance is spent; if several hold, the first in this order
-    // is the reason. A packet is copied to the start of the output. An inconsistent state is refused (Inconsistent, number 9) and a fresh one comes
-    // back, whatever the output; then an output under 255 bytes is (ShortOutput, number 2), and the state that went in comes back. A refusal takes
-    // no byte. Without a packet the output is unchanged, and with one so are its bytes beyond the packet.
-    pub fn take(self, input: &[u8], allowance: usize, out: &mut [u8]) -> Taken
-        ensures { λ r. ⌜ r ≡ takenOf (now (input .entry)) allowance (length (now (out .entry))) self ⌝ }
-        ensures { λ r. ⌜ now (out .exit) ≡ copiedOf (r .reason) (r .state) (now (out .entry)) ⌝ }
-        ensures { λ r. ⌜ reasonAnswer (r .reason) ≡ takerAnswer (now (input .entry)) allowance (length (now (out .entry))) self ⌝ }
+impl Cause {
+    // The taker's reason.
+    pub(crate) fn reason(self) -> Reason
+        ensures { λ r. ⌜ r ≡ reasonOf self ⌝ }
     {
-        if self.consistent() {
-            if out.len() < 255 {
-                Taken {
-                    reason: Reason::ShortOutput,
-                    taken: 0,
-                    state: self,
-                }
-            } else {
-                let mut stored = self.stored;
-                let stopped = self.head().take_bytes(&mut stored, input, allowance);
-                let reason = stopped.reason;
-                let head = stopped.head;
-                copy_packet(reason, &stored, out);
-                let state = head.with(stored);
-                Taken {
-                    reason,
-                    taken: stopped.taken,
-                    state,
-                }
+        match self {
+            Cause::Packet(n) => Reason::Packet(n),
+            Cause::InputEnded => Reason::InputEnded,
+            Cause::AllowanceSpent => Reason::AllowanceSpent,
+        }
+    }
+
+    // What the last step gave: a packet, or nothing.
+    pub(crate) fn outcome(self) -> Outcome
+        ensures { λ r. ⌜ r ≡ lastOf self ⌝ }
+    {
+        match self {
+            Cause::Packet(n) => Outcome::Packet(n),
+            Cause::InputEnded => Outcome::Nothing,
+            Cause::AllowanceSpent => Outcome::Nothing,
+        }
+    }
+
+    // A packet that was taken is copied from the stored bytes, where it begins at place 2, to the start of the output.
+    pub(crate) fn copy_packet(self, stored: &[u8], out: &mut [u8])
+        requires { ⌜ Bounded self × (length (now stored) ≡ storedSize) × (255 ≤ length (now out)) ⌝ }
+        ensures { λ r. ⌜ ((head : Head) → now (out .exit) ≡ copiedOf (reasonOf self) (held head (now (stored .entry))) (now (out .entry))) ⌝ }
+    {
+        match self {
+            Cause::Packet(n) => {
+                bytes::copy(&stored[2..n + 2], out);
             }
-        } else {
-            let state = Receiver::fresh();
-            Taken {
-                reason: Reason::Inconsistent,
-                taken: 0,
-                state,
-            }
+            Cause::InputEnded => {}
+            Cause::AllowanceSpent => {}
         }
     }
 }

@@ -6,7 +6,7 @@ use Rattle.serial.specs.declared.receiver.Outcome.{Outcome}
 use Rattle.serial.specs.declared.receiver.Outcome.the-variants.{Inconsistent}
 use Rattle.serial.specs.declared.receiver.Receiver.{Receiver}
 use Rattle.serial.specs.Receiver.{consistentOf, stepOf}
-use Rattle.serial.specs.Taker.{outcomeOf}
+use Rattle.serial.specs.Core.{lastOf}
 use Rattle.serial.proofs.Answers.{step-answered}
 use Rattle.serial.proofs.TakerLaws.{one-taken}
 use Rattle.serial.proofs.receiver.Receiver.step.Statement.{statement}
@@ -43,7 +43,7 @@ returns c =
     let b = c .before .before .before .before .before .before .before .before .before .before .before .args .b in
     step-answered _ _ _
     (ap (λ (o : Outcome). record { outcome = o; state = c .with .result }) (c .before .outcome .ensures)
-    ∙ ap (λ (s : Receiver). record { outcome = outcomeOf (t .result .reason); state = s }) (c .with .ensures) ∙ one-taken b _ _ (t .ensures .0) (t .ensures .1 .0)
+    ∙ ap (λ (s : Receiver). record { outcome = lastOf (t .result .cause); state = s }) (c .with .ensures) ∙ one-taken b _ (t .result) _ (t .ensures .0)
     ∙ ap (stepOf b) (c .before .before .before .before .before .before .before .head .ensures))
 
 returns-2 : tie.Need-returns-2

@@ -1,12 +1,17 @@
 -- `Receiver::take` meets its contract: from a consistent state and with room it says what `take_bytes` took, and a packet of at most 255 bytes is
 -- copied; its other answers are the definition's refusals. Assumes nothing.
-use mathlib.Core.Path.{_∙_, ap, refl, subst, sym}
+use mathlib.Core.Path.{_∙_, ap, ap₂, refl, sym}
+use lib.ListN.{take}
 use borrow.Author.Needs.{needs}
 use Rattle.serial.specs.declared.receiver.Receiver.{Receiver}
+use Rattle.serial.specs.declared.taker.Reason.{Reason}
 use Rattle.serial.specs.declared.taker.Reason.the-variants.{Inconsistent}
+use Rattle.checks.specs.Numbers.{answer, done}
+use Rattle.serial.specs.Answers.{firstLength, reasonAnswer}
 use Rattle.serial.specs.Receiver.{consistentOf}
-use Rattle.serial.specs.Taker.{copiedOf, stop}
-use Rattle.serial.proofs.TakerLaws.{TakenFrom, inconsistent-said, short-said, taken-said}
+use Rattle.serial.specs.Run.{outsOf}
+use Rattle.serial.specs.Taker.{copiedOf, stop, takeFrom}
+use Rattle.serial.proofs.TakerLaws.{inconsistent-said, short-said, taken-said}
 use Rattle.serial.proofs.receiver.Receiver.take.Statement.{statement}
 use Rattle.serial.proofs.receiver.Receiver.take.Tie as tie
 
@@ -29,6 +34,9 @@ slice-aggregate-copy-packet c = search needs
 copy-packet-requires : tie.Need-copy-packet-requires
 copy-packet-requires c κs = search needs
 
+reason-requires : tie.Need-reason-requires
+reason-requires c κs = search needs
+
 with-requires : tie.Need-with-requires
 with-requires c κs = search needs
 
@@ -45,13 +53,18 @@ same-length c = search needs
 
 returns-2 : tie.Need-returns-2
 returns-2 c =
-    let e = c .before .before .before .before .before .before .before .before .before .before .before .before in
-    let t = c .before .before .before .before .before .before .before .before .take-bytes in
+    let e = c .before .before .before .before .before .before .before .before .before .before .before .before .before in
+    let t = c .before .before .before .before .before .before .before .before .before .take-bytes in
+    let from = c .before .before .before .before .before .before .before .before .before .before .before .head .ensures in
+    let why = c .before .reason .ensures in
+    let to = c .with .ensures in
     let a = e .before .before .before .before .before .args in
-    let takes : Receiver → Receiver → Type 0 = λ from to. TakenFrom (a .input .now) (a .allowance) from (stop (t .result .reason) (t .result .taken) to) in
     taken-said (a .input .now) (a .allowance) (a .self) (a .out .now) _ _ (sym (e .before .before .consistent .ensures) ∙ e .before .if1 .taken) (e .if2 .left)
-    (subst (λ (from : Receiver). takes from (c .with .result)) (c .before .before .before .before .before .before .before .before .before .before .head .ensures) (subst (takes _) (sym (c .with .ensures)) (t .ensures)))
-    (c .before .before .before .copy-packet .ensures (t .result .head) ∙ ap (λ (to : Receiver). copiedOf (t .result .reason) to (a .out .now)) (sym (c .with .ensures)))
+    (ap₂ (λ (r : Reason) (s : Receiver). stop r (t .result .taken) s) why to ∙ t .ensures .0
+    ∙ ap (λ (s : Receiver). takeFrom (a .input .now) (a .allowance) s 0) from)
+    (ap reasonAnswer why ∙ t .ensures .1 .1 ∙ ap (λ (s : Receiver). answer done (firstLength (outsOf 0 s (take (a .allowance) (a .input .now))))) from)
+    (c .before .before .before .before .copy-packet .ensures (t .result .head)
+    ∙ ap₂ (λ (r : Reason) (s : Receiver). copiedOf r s (a .out .now)) (sym why) (sym to))
 
 returns-3 : tie.Need-returns-3
 returns-3 c =
@@ -69,6 +82,7 @@ take-spec =
     take-bytes-requires
     slice-aggregate-copy-packet
     copy-packet-requires
+    reason-requires
     with-requires
     fresh-requires
     returns

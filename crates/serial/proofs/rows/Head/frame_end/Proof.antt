@@ -4,7 +4,7 @@ use borrow.Author.Tests.{eq-eqb, ne-eqb}
 use borrow.Author.Needs.{needs}
 use Rattle.serial.specs.declared.receiver.Outcome.the-variants.{Packet}
 use Rattle.serial.specs.declared.receiver.Receiver.{Receiver}
-use Rattle.serial.proofs.Core.{still}
+use Rattle.serial.specs.Receiver.{quiet}
 use Rattle.serial.proofs.rows.Head.frame_end.Statement.{statement}
 use Rattle.serial.proofs.rows.Head.frame_end.Tie as tie
 
@@ -14,14 +14,8 @@ at-requires c κs = search needs
 agrees-requires : tie.Need-agrees-requires
 agrees-requires c κs = search needs
 
-nothing-requires : tie.Need-nothing-requires
-nothing-requires c κs = search needs
-
 at-requires-2 : tie.Need-at-requires-2
 at-requires-2 c κs = search needs
-
-nothing-requires-2 : tie.Need-nothing-requires-2
-nothing-requires-2 c κs = search needs
 
 returns : tie.Need-returns
 returns c =
@@ -31,22 +25,12 @@ returns c =
 
 returns-2 : tie.Need-returns-2
 returns-2 c =
-    simp (eq-eqb _ _ (c .before .before .before .before .if1 .taken), sym (c .before .before .agrees .ensures) ∙ c .before .if2 .left)
-    (still _ _ _ _ (c .nothing .ensures) (c .before .before .before .at .ensures _))
+    simp (eq-eqb _ _ (c .before .before .before .if1 .taken), sym (c .before .agrees .ensures) ∙ c .if2 .left)
+    (ap quiet (c .before .before .at .ensures _))
 
 returns-3 : tie.Need-returns-3
-returns-3 c =
-    simp (ne-eqb _ _ (c .before .before .if1 .left)) (still _ _ _ _ (c .nothing2 .ensures) (c .before .at2 .ensures _))
+returns-3 c = simp (ne-eqb _ _ (c .before .if1 .left)) (ap quiet (c .at2 .ensures _))
 
 pub frame-end-spec : {M : Type 1} → statement M
 frame-end-spec =
-    tie.close
-    (tie.spec
-    at-requires
-    agrees-requires
-    nothing-requires
-    at-requires-2
-    nothing-requires-2
-    returns
-    returns-2
-    returns-3)
+    tie.close (tie.spec at-requires agrees-requires at-requires-2 returns returns-2 returns-3)

@@ -6,13 +6,14 @@ use native.Mathlib.Nat.{sub-zero}
 use native.Mathlib.Omega.{arith}
 use lib.ListN.{length, drop, getD}
 use borrow.Author.Needs.{needs}
-use Rattle.serial.specs.declared.receiver.Outcome.the-variants.{Nothing, Inconsistent}
+use Rattle.serial.specs.declared.receiver.Outcome.the-variants.{Nothing}
 use Rattle.serial.specs.declared.receiver.Stepped.{Stepped}
-use Rattle.serial.specs.Core.{held, heldStep}
+use Rattle.serial.specs.declared.taker.Cause.the-variants.{InputEnded, AllowanceSpent, Packet}
+use Rattle.serial.specs.Core.{held, heldStep, outcomeOf}
 use Rattle.serial.specs.Consistency.{Consistent}
 use Rattle.serial.specs.Taker.{takeFrom}
 use Rattle.serial.proofs.Keeps.{keeps}
-use Rattle.serial.proofs.TakerLaws.{Took, taken-ended, taken-from, taken-next, taken-spent, took}
+use Rattle.serial.proofs.TakerLaws.{Took, stopped-from, taken-ended, taken-next, taken-spent, took}
 use Rattle.serial.proofs.rows.Head.take_bytes.Statement.{statement}
 use Rattle.serial.proofs.rows.Head.take_bytes.Tie as tie
 
@@ -60,7 +61,7 @@ loop-again c =
     let allowed : l .loop .i < a .allowance = omega arith in
     let r = c .before .before .before .before .before .advance in
     let byte : getD (a .input .now) (l .loop .i) 0 < 256 = c .before .before .before .before .before .before .shared-slice-known2 .given (l .loop .i) .fits in (
-      taken-next (a .input .now) (a .allowance) (l .loop .i) (held (l .loop .head) (l .loop .stored)) (heldStep (r .result) (r .last .1 .0)) Nothing here allowed (r .ensures) (c .enum-told .given .1)
+      taken-next (a .input .now) (a .allowance) (l .loop .i) (held (l .loop .head) (l .loop .stored)) (heldStep (r .result) (r .last .1 .0)) Nothing here allowed (r .ensures) (ap outcomeOf (c .enum-told .given .1))
           ∙ l .loop .inv .0,
       omega arith,
       omega arith,
@@ -68,11 +69,8 @@ loop-again c =
       l .loop .inv .4,
     )
 
-enum-known-outcome : tie.Need-enum-known-outcome Inv-loop μ-loop
-enum-known-outcome c = search needs
-
-enum-told-2 : tie.Need-enum-told-2 Inv-loop μ-loop
-enum-told-2 c = search needs
+enum-known-event : tie.Need-enum-known-event Inv-loop μ-loop
+enum-known-event c = search needs
 
 same-length : tie.Need-same-length Inv-loop μ-loop
 same-length c = search needs
@@ -81,7 +79,7 @@ returns : tie.Need-returns Inv-loop μ-loop
 returns c =
     let l = c .before in
     let a = c .before .before .before .before .args in
-    taken-from (a .input .now) (a .allowance) _ _
+    stopped-from (a .input .now) (a .allowance) _ _ InputEnded _
     (taken-ended (a .input .now) (a .allowance) (l .loop .i) (held (l .loop .head) (l .loop .stored)) (omega arith)
     ∙ l .loop .inv .0) (l .loop .inv .4)
 
@@ -92,7 +90,7 @@ returns-2 : tie.Need-returns-2 Inv-loop μ-loop
 returns-2 c =
     let l = c .before .before in
     let a = c .before .before .before .before .before .args in
-    taken-from (a .input .now) (a .allowance) _ _
+    stopped-from (a .input .now) (a .allowance) _ _ AllowanceSpent _
     (taken-spent (a .input .now) (a .allowance) (l .loop .i) (held (l .loop .head) (l .loop .stored)) (omega arith) (omega arith)
     ∙ l .loop .inv .0) (l .loop .inv .4)
 
@@ -106,22 +104,8 @@ returns-3 c =
     let here : l .loop .i < length (a .input .now) = omega arith in
     let allowed : l .loop .i < a .allowance = omega arith in
     let r = c .before .before .before .before .before .before .advance in
-    taken-from (a .input .now) (a .allowance) _ _
-    (taken-next (a .input .now) (a .allowance) (l .loop .i) (held (l .loop .head) (l .loop .stored)) (heldStep (r .result) (r .last .1 .0)) _ here allowed (r .ensures) (c .before .outcome .given .1)
-    ∙ l .loop .inv .0) (l .loop .inv .4)
-
-same-length-4 : tie.Need-same-length-4 Inv-loop μ-loop
-same-length-4 c = search needs
-
-returns-4 : tie.Need-returns-4 Inv-loop μ-loop
-returns-4 c =
-    let l = c .before .before .before .before .before .before .before .before .before .before in
-    let a = c .before .before .before .before .before .before .before .before .before .before .before .before .before .args in
-    let here : l .loop .i < length (a .input .now) = omega arith in
-    let allowed : l .loop .i < a .allowance = omega arith in
-    let r = c .before .before .before .before .before .advance in
-    taken-from (a .input .now) (a .allowance) _ _
-    (taken-next (a .input .now) (a .allowance) (l .loop .i) (held (l .loop .head) (l .loop .stored)) (heldStep (r .result) (r .last .1 .0)) Inconsistent here allowed (r .ensures) (c .enum-told2 .given .1)
+    stopped-from (a .input .now) (a .allowance) _ _ (Packet _) _
+    (taken-next (a .input .now) (a .allowance) (l .loop .i) (held (l .loop .head) (l .loop .stored)) (heldStep (r .result) (r .last .1 .0)) _ here allowed (r .ensures) (ap outcomeOf (c .before .event .given .1))
     ∙ l .loop .inv .0) (l .loop .inv .4)
 
 pub take-bytes-spec : {M : Type 1} → statement M
@@ -137,13 +121,10 @@ take-bytes-spec =
     enum-told
     loop-less
     loop-again
-    enum-known-outcome
-    enum-told-2
+    enum-known-event
     same-length
     returns
     same-length-2
     returns-2
     same-length-3
-    returns-3
-    same-length-4
-    returns-4)
+    returns-3)
