@@ -7,7 +7,7 @@ ghost use Prim.Native.Nat.{ℕ, _+_, _*_, _<_, _≤_};
 ghost use lib.ListN.{length, take};
 ghost use Rattle.checks.specs.Numbers.{answer, done};
 ghost use Rattle.serial.specs.Answers.{firstLength, reasonAnswer};
-ghost use Rattle.serial.specs.Receiver.{agreesOf, atFrameEnd, byteCountRow, changed, checkRow, consistentOf, dataEscapedRow, dataRow, frameSearchRow, moveTo, serialRevisionRow, stepOf, storeUntil, storedSize};
+ghost use Rattle.serial.specs.Receiver.{agreesOf, atFrameEnd, byteCountRow, changed, checkRow, consistentOf, dataEscapedRow, dataRow, frameSearchRow, moveTo, serialRevisionRow, stepOf, storeData, storeUntil, storedSize};
 ghost use Rattle.serial.specs.Core.{Bounded, Leads, held, heldStep, heldTaken, reasonOf};
 ghost use Rattle.serial.specs.Run.{outsOf};
 ghost use Rattle.serial.specs.Taker.{takeFrom};
@@ -82,6 +82,14 @@ impl Head {
         }
     }
 
+    // A packet's byte is stored; Check once the count is reached.
+    fn store_data(self, stored: &mut [u8], b: u8) -> Head
+        requires { ⌜ (self .len < length (now stored)) × (self .len < storedSize) × (self .count ≤ 255) ⌝ }
+        ensures { λ r. ⌜ held r (now (stored .exit)) ≡ storeData b (held self (now (stored .entry))) ⌝ }
+    {
+        self.store_until(stored, b, 2, Position::Check, Position::Data)
+    }
+
     // Whether the two stored check bytes are the check of what is stored before them.
     fn agrees(self, stored: &[u8]) -> bool
         requires { ⌜ (self .count + 4 ≤ length (now stored)) × (self .count ≤ 255) ⌝ }
@@ -141,7 +149,7 @@ impl Head {
         } else if b == FRAMING_ESCAPE {
             self.at(Position::DataEscaped)
         } else {
-            self.store_until(stored, b, 2, Position::Check, Position::Data)
+            self.store_data(stored, b)
         }
     }
 
@@ -151,9 +159,9 @@ impl Head {
         ensures { λ r. ⌜ held r (now (stored .exit)) ≡ dataEscapedRow b (held self (now (stored .entry))) ⌝ }
     {
         if b == FLAG_ESCAPED {
-            self.store_until(stored, FRAMING_FLAG, 2, Position::Check, Position::Data)
+            self.store_data(stored, FRAMING_FLAG)
         } else if b == ESCAPE_ESCAPED {
-            self.store_until(stored, FRAMING_ESCAPE, 2, Position::Check, Position::Data)
+            self.store_data(stored, FRAMING_ESCAPE)
         } else {
             self.at(Position::FrameSearch)
         }

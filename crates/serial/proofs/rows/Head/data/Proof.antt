@@ -10,8 +10,8 @@ at-requires c κs = search needs
 at-requires-2 : tie.Need-at-requires-2
 at-requires-2 c κs = search needs
 
-store-until-requires : tie.Need-store-until-requires
-store-until-requires c κs = search needs
+store-data-requires : tie.Need-store-data-requires
+store-data-requires c κs = search needs
 
 returns : tie.Need-returns
 returns c = simp (eq-eqb _ _ (c .before .if1 .taken)) (c .at .ensures _)
@@ -23,7 +23,7 @@ same-length : tie.Need-same-length
 same-length c = search needs
 
 returns-3 : tie.Need-returns-3
-returns-3 c = simp (ne-eqb _ _ (c .before .before .before .before .before .if1 .left), ne-eqb _ _ (c .before .before .before .before .if2 .left)) (c .before .before .store-until .ensures)
+returns-3 c = simp (ne-eqb _ _ (c .before .before .before .before .before .if1 .left), ne-eqb _ _ (c .before .before .before .before .if2 .left)) (c .before .before .store-data .ensures)
 
 pub data-spec : {M : Type 1} → statement M
 data-spec =
@@ -31,7 +31,7 @@ data-spec =
     (tie.spec
     at-requires
     at-requires-2
-    store-until-requires
+    store-data-requires
     returns
     returns-2
     same-length
