@@ -1,3 +1,4 @@
+pub mod Computed
 pub mod Consistent
 pub mod Keeps
 pub mod Answers

@@ -5,3 +5,4 @@ pub mod Taker
 pub mod Steps
 pub mod Answers
 pub mod Consistency
+pub mod Computed

@@ -1,0 +1,58 @@
+-- What is computed, step by step, from the definitions: fresh, consistent, step and the taker at their limits, one beside the other. A function that
+-- answers anything else there breaks its contract. The proofs: `proofs/Computed.antt`. Assumes nothing.
+use Prim.Native.Nat.{ℕ}
+use mathlib.Core.Path.{_≡_}
+use mathlib.Core.Bool.{true, false}
+use mathlib.Core.List.{[], _∷_}
+use lib.ListN.{replicate}
+use Rattle.checks.specs.Numbers.{answer, inconsistent, shortOutput}
+use Rattle.framing.specs.Frame.{flag, revision}
+use Rattle.serial.specs.declared.receiver.Position.{Position}
+use Rattle.serial.specs.declared.receiver.Position.the-variants.{FrameSearch, SerialRevision, ByteCount, Data, DataEscaped, Check, FrameEnd}
+use Rattle.serial.specs.declared.receiver.Receiver.{Receiver}
+use Rattle.serial.specs.declared.taker.Reason.the-variants.{InputEnded, AllowanceSpent, ShortOutput, Inconsistent}
+use Rattle.serial.specs.Answers.{stepAnswer, takerAnswer}
+use Rattle.serial.specs.Receiver.{begun, changed, consistentOf, freshOf, moveTo, stepOf}
+use Rattle.serial.specs.Taker.{stop, takenOf}
+
+-- a state with a count and a stored length, behind the revision and that count
+abbrev pub behind : Position → ℕ → ℕ → Receiver
+behind p n l = changed p n l (revision ∷ n ∷ replicate 257 0) freshOf
+
+-- ---- fresh: no other position, and no stored byte but 0
+
+abbrev pub NotFresh : Type 0
+NotFresh = (moveTo SerialRevision freshOf ≡ freshOf → ⊥) × (begun 1 FrameSearch freshOf ≡ freshOf → ⊥)
+
+-- ---- consistent: what fits, and what lies one beside it
+
+abbrev pub Fitting : Type 0
+Fitting = (consistentOf freshOf ≡ true) × (consistentOf (behind ByteCount 0 1) ≡ true)
+    × (consistentOf (behind Data 5 2) ≡ true) × (consistentOf (behind Data 5 6) ≡ true)
+    × (consistentOf (behind DataEscaped 5 2) ≡ true) × (consistentOf (behind DataEscaped 5 6) ≡ true)
+    × (consistentOf (behind Check 5 7) ≡ true) × (consistentOf (behind Check 5 8) ≡ true)
+    × (consistentOf (behind FrameEnd 1 5) ≡ true) × (consistentOf (behind FrameEnd 255 259) ≡ true)
+
+abbrev pub NotFitting : Type 0
+NotFitting = (consistentOf (behind FrameSearch 0 260) ≡ false) × (consistentOf (behind FrameSearch 256 0) ≡ false)
+    × (consistentOf (behind ByteCount 0 0) ≡ false) × (consistentOf (behind ByteCount 0 2) ≡ false)
+    × (consistentOf (behind Data 0 2) ≡ false) × (consistentOf (behind Data 5 1) ≡ false) × (consistentOf (behind Data 5 7) ≡ false)
+    × (consistentOf (behind DataEscaped 5 1) ≡ false) × (consistentOf (behind DataEscaped 5 7) ≡ false)
+    × (consistentOf (behind Check 5 6) ≡ false) × (consistentOf (behind Check 5 9) ≡ false)
+    × (consistentOf (behind FrameEnd 5 8) ≡ false) × (consistentOf (behind FrameEnd 5 10) ≡ false)
+    × (consistentOf (changed ByteCount 0 1 (0x02 ∷ replicate 258 0) freshOf) ≡ false)
+    × (consistentOf (changed FrameEnd 5 9 (revision ∷ 6 ∷ replicate 257 0) freshOf) ≡ false)
+
+-- ---- a step from a state that is not consistent: 9 and a fresh state, whatever the byte
+
+abbrev pub StepRefuses : Type 0
+StepRefuses = (b : ℕ) → (stepAnswer b (behind Data 0 2) ≡ answer inconsistent []) × (stepOf b (behind Data 0 2) .state ≡ freshOf)
+
+-- ---- the taker: 9 before 2; an output of 254 bytes and one of 255; the input's end is named before the allowance's
+
+abbrev pub TakerAtLimits : Type 0
+TakerAtLimits = (takenOf (flag ∷ []) 1 0 (behind Data 0 2) ≡ stop Inconsistent 0 freshOf)
+    × (takerAnswer (flag ∷ []) 1 254 freshOf ≡ answer shortOutput []) × (takenOf (flag ∷ []) 1 254 freshOf ≡ stop ShortOutput 0 freshOf)
+    × (takenOf (flag ∷ []) 1 255 freshOf ≡ stop InputEnded 1 (moveTo SerialRevision freshOf))
+    × (takenOf (flag ∷ flag ∷ []) 1 255 freshOf ≡ stop AllowanceSpent 1 (moveTo SerialRevision freshOf))
+    × (takenOf [] 0 255 freshOf ≡ stop InputEnded 0 freshOf) × (takenOf (flag ∷ []) 0 255 freshOf ≡ stop AllowanceSpent 0 freshOf)
