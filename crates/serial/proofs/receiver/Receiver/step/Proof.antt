@@ -64,6 +64,6 @@ step-spec =
     take-bytes-requires
     outcome-requires
     with-requires
-    fresh-requires
     returns
+    fresh-requires
     returns-2)

@@ -77,6 +77,7 @@ take-spec =
     tie.close
     (tie.spec
     consistent-requires
+    returns
     head-requires
     slice-aggregate-take-bytes
     take-bytes-requires
@@ -84,8 +85,7 @@ take-spec =
     copy-packet-requires
     reason-requires
     with-requires
-    fresh-requires
-    returns
     same-length
     returns-2
+    fresh-requires
     returns-3)
