@@ -8,7 +8,7 @@ use native.Mathlib.Omega.{arith}
 use lib.Dec.{eqb, leb, ltb}
 use lib.ListN.{drop, drop-of-length-le, getD, length, length-append, length-replicate, replicate}
 use Rattle.checks.specs.Laws.{Bytes}
-use Rattle.checks.specs.Numbers.{Answer, answer, badAddress, badArgument, badPacket, done, shortOutput}
+use Rattle.checks.specs.Numbers.{Answer, answer, done, shortOutput}
 use Rattle.checks.specs.Output.{atStart}
 use Rattle.checks.proofs.Bytes.{bytes-replicate}
 use Rattle.framing.specs.Numbers.{badLength}
@@ -20,10 +20,12 @@ use Rattle.framing.specs.Writer.{outputOf, sendable}
 use Rattle.i2c.specs.declared.encoder.Encoded.{Encoded}
 use Rattle.i2c.specs.declared.encoder.Encoded.the-variants as encoder
 use Rattle.i2c.specs.Encode.{addresses, encodeAnswer, encodeOutput, encodedAnswer}
+use Rattle.i2c.specs.Numbers.{badAddress, badArgument}
 use Rattle.usb.specs.declared.head.Headed.{Headed}
 use Rattle.usb.specs.declared.head.Headed.the-variants as head
-use Rattle.usb.specs.Builder.{appendAnswer}
 use Rattle.usb.specs.Header.{headedAnswer, headerAnswer, headerOutput, sendable as usbSendable}
+use Rattle.usb.specs.Numbers.{badPacket}
+use Rattle.transfer.specs.Builder.{appendAnswer}
 use Rattle.cases.specs.Row.{Comes, given}
 use Rattle.cases.specs.Row.{frameCheckOver, frameToSerial, frameToSerialAny, pecOver, receiverFed}
 use Rattle.cases.specs.Row.{i2cDecode, i2cEncode, usbAppendAny, usbDecode, usbHeader}

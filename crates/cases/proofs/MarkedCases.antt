@@ -26,10 +26,10 @@ use Rattle.i2c.specs.Encode.{encodeAnswer, encodeOutput}
 use Rattle.i2c.proofs.Answers.{same-encoded}
 use Rattle.usb.specs.declared.head.Headed.{Headed}
 use Rattle.usb.specs.declared.head.Headed.the-variants as head
-use Rattle.usb.specs.Builder.{appendAnswer, appendOutput, usedAfter}
 use Rattle.usb.specs.Decode.{decodeAnswer as usbAnswer}
 use Rattle.usb.specs.Header.{headedAnswer, headerAnswer, headerOf, headerOutput}
 use Rattle.usb.proofs.Answers.{same-headed}
+use Rattle.transfer.specs.Builder.{appendAnswer, appendOutput, usedAfter}
 use Rattle.cases.specs.Row.{Row, fits, given, refused, written}
 use Rattle.cases.specs.Holds.{Holds, LettersCovered, MarkedCases, Writes, withFrame}
 use Rattle.cases.specs.Table.{caseA, caseAFrame, table}

@@ -19,9 +19,9 @@ use Rattle.serial.specs.Run.{outsOf, runOf}
 use Rattle.framing.specs.Writer.{outputOf}
 use Rattle.i2c.specs.Decode.{decodeAnswer as i2cAnswer, payloadPart}
 use Rattle.i2c.specs.Encode.{encodeAnswer, encodeOutput, encodedAnswer}
-use Rattle.usb.specs.Builder.{appendAnswer, appendOutput, usedAfter}
 use Rattle.usb.specs.Decode.{decodeAnswer as usbAnswer, packetPart, remainderPart}
 use Rattle.usb.specs.Header.{headedAnswer, headerAnswer, headerOutput}
+use Rattle.transfer.specs.Builder.{appendAnswer, appendOutput, usedAfter}
 use Rattle.cases.specs.Row.{Comes, Doing, Letter, Row, given, received, value}
 use Rattle.cases.specs.Row.{A, B, C, D, E, F, G, H, I, J, K, L, M, N}
 use Rattle.cases.specs.Row.{frameCheckOver, frameToSerial, frameToSerialAny, pecOver, receiverFed}

@@ -2,8 +2,7 @@
 use mathlib.Core.Path.{_≡_, refl}
 use mathlib.Core.Bool.{cond}
 use lib.Dec.{eqb}
-use lib.ListN.{getD}
-use Rattle.checks.specs.Numbers.{Answer, badAddress, done}
+use Rattle.checks.specs.Numbers.{Answer, done, valueOf}
 use Rattle.checks.proofs.Numbers.{tells}
 use Rattle.i2c.specs.declared.decoder.Decoded.{Decoded}
 use Rattle.i2c.specs.declared.decoder.Decoded.the-variants.{From, InvalidInput}
@@ -11,12 +10,13 @@ use Rattle.i2c.specs.declared.encoder.Encoded.{Encoded}
 use Rattle.i2c.specs.declared.encoder.Encoded.the-variants.{BadAddress, BadArgument, Done}
 use Rattle.i2c.specs.Decode.{decodedAnswer}
 use Rattle.i2c.specs.Encode.{encodedAnswer}
+use Rattle.i2c.specs.Numbers.{badAddress}
 
 -- ---- encode
 
 -- the result, back from its answer
 abbrev encoded-back : Answer → Encoded
-encoded-back a = cond (eqb (a .number) done) (Done (getD (a .values) 0 0)) (cond (eqb (a .number) badAddress) BadAddress BadArgument)
+encoded-back a = cond (eqb (a .number) done) (Done (valueOf a)) (cond (eqb (a .number) badAddress) BadAddress BadArgument)
 
 encoded-there-and-back : (x : Encoded) → encoded-back (encodedAnswer x) ≡ x
 encoded-there-and-back (Done n) = refl
@@ -30,7 +30,7 @@ same-encoded = tells encodedAnswer encoded-back encoded-there-and-back
 
 -- the result, back from its answer
 abbrev decoded-back : Answer → Decoded
-decoded-back a = cond (eqb (a .number) done) (From (getD (a .values) 0 0)) InvalidInput
+decoded-back a = cond (eqb (a .number) done) (From (valueOf a)) InvalidInput
 
 decoded-there-and-back : (x : Decoded) → decoded-back (decodedAnswer x) ≡ x
 decoded-there-and-back (From source) = refl

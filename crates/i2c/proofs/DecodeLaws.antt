@@ -8,13 +8,14 @@ use native.Mathlib.Omega.{arith}
 use lib.Dec.{eqb, ltb}
 use lib.ListN.{length, getD}
 use borrow.Author.Tests.{eq-eqb, eqb-false, eqb-true, le-ltb, lt-ltb, ltb-false, ne-eqb}
-use Rattle.checks.specs.Numbers.{Answer, answer, done, invalidInput}
+use Rattle.checks.specs.Numbers.{Answer, answer, done}
 use Rattle.checks.specs.PacketErrorCode.{pecOf}
 use Rattle.checks.specs.Part.{noPart, part}
 use Rattle.checks.proofs.Choice.{by-cond}
 use Rattle.checks.proofs.Numbers.{same-number, same-value}
 use Rattle.i2c.specs.Decode.{body, bodyAnswer, butLast, decodeAnswer, lastByte, payloadPart}
-use Rattle.i2c.specs.Frame.{byteCount, commandCode}
+use Rattle.i2c.specs.Frame.{byteCount, commandCode, headerSize}
+use Rattle.i2c.specs.Numbers.{invalidInput}
 
 -- a refusal is not a source
 not-done : (vs : List ℕ) → answer invalidInput [] ≡ answer done vs → ⊥
@@ -28,51 +29,51 @@ pub data Decides (a : Answer) : Type 0 where
 -- ---- header and payload
 
 -- each check that refuses, where those before it do not
-pub body-short : (bytes : List ℕ) → length bytes < 4 → bodyAnswer bytes ≡ answer invalidInput []
+pub body-short : (bytes : List ℕ) → length bytes < headerSize → bodyAnswer bytes ≡ answer invalidInput []
 unfolding bodyAnswer
-body-short bytes h = simp (lt-ltb (length bytes) 4 h)
+body-short bytes h = simp (lt-ltb (length bytes) headerSize h)
 
-pub body-count : (bytes : List ℕ) → 4 ≤ length bytes → (getD bytes 2 0 ≡ byteCount (length bytes - 4) → ⊥)
+pub body-count : (bytes : List ℕ) → headerSize ≤ length bytes → (getD bytes 2 0 ≡ byteCount (length bytes - headerSize) → ⊥)
     → bodyAnswer bytes ≡ answer invalidInput []
 unfolding bodyAnswer
-body-count bytes h wrong = simp (le-ltb (length bytes) 4 h, ne-eqb (getD bytes 2 0) (byteCount (length bytes - 4)) wrong)
+body-count bytes h wrong = simp (le-ltb (length bytes) headerSize h, ne-eqb (getD bytes 2 0) (byteCount (length bytes - headerSize)) wrong)
 
-pub body-command : (bytes : List ℕ) → 4 ≤ length bytes → getD bytes 2 0 ≡ byteCount (length bytes - 4)
+pub body-command : (bytes : List ℕ) → headerSize ≤ length bytes → getD bytes 2 0 ≡ byteCount (length bytes - headerSize)
     → (getD bytes 1 0 ≡ commandCode → ⊥) → bodyAnswer bytes ≡ answer invalidInput []
 unfolding bodyAnswer
 body-command bytes h count wrong =
     simp (
-      le-ltb (length bytes) 4 h,
-      eq-eqb (getD bytes 2 0) (byteCount (length bytes - 4)) count,
+      le-ltb (length bytes) headerSize h,
+      eq-eqb (getD bytes 2 0) (byteCount (length bytes - headerSize)) count,
       ne-eqb (getD bytes 1 0) commandCode wrong,
     )
 
 -- and where none refuses
-pub body-done : (bytes : List ℕ) → 4 ≤ length bytes → getD bytes 2 0 ≡ byteCount (length bytes - 4) → getD bytes 1 0 ≡ commandCode
+pub body-done : (bytes : List ℕ) → headerSize ≤ length bytes → getD bytes 2 0 ≡ byteCount (length bytes - headerSize) → getD bytes 1 0 ≡ commandCode
     → bodyAnswer bytes ≡ answer done (getD bytes 3 0 / 2 ∷ [])
 unfolding bodyAnswer
 body-done bytes h count command =
     simp (
-      le-ltb (length bytes) 4 h,
-      eq-eqb (getD bytes 2 0) (byteCount (length bytes - 4)) count,
+      le-ltb (length bytes) headerSize h,
+      eq-eqb (getD bytes 2 0) (byteCount (length bytes - headerSize)) count,
       eq-eqb (getD bytes 1 0) commandCode command,
     )
 
 -- what stands in bytes of which a source is answered
 pub record Headed (bytes : List ℕ) (source : ℕ) : Type 0 where
-  pub long : 4 ≤ length bytes
-  pub counted : getD bytes 2 0 ≡ byteCount (length bytes - 4)
+  pub long : headerSize ≤ length bytes
+  pub counted : getD bytes 2 0 ≡ byteCount (length bytes - headerSize)
   pub command : getD bytes 1 0 ≡ commandCode
   pub halved : getD bytes 3 0 / 2 ≡ source
 
 -- and back: where a source is answered, no check refused
-pub body-taken : (bytes : List ℕ) (source : ℕ) → bodyAnswer bytes ≡ answer done (source ∷ []) → Headed bytes source
+body-taken : (bytes : List ℕ) (source : ℕ) → bodyAnswer bytes ≡ answer done (source ∷ []) → Headed bytes source
 unfolding bodyAnswer
 body-taken bytes source e =
-    go (ltb (length bytes) 4) (eqb (getD bytes 2 0) (byteCount (length bytes - 4))) (eqb (getD bytes 1 0) commandCode) refl refl refl e
+    go (ltb (length bytes) headerSize) (eqb (getD bytes 2 0) (byteCount (length bytes - headerSize))) (eqb (getD bytes 1 0) commandCode) refl refl refl e
   where
     go : (short count command : Bool)
-        → ltb (length bytes) 4 ≡ short → eqb (getD bytes 2 0) (byteCount (length bytes - 4)) ≡ count → eqb (getD bytes 1 0) commandCode ≡ command
+        → ltb (length bytes) headerSize ≡ short → eqb (getD bytes 2 0) (byteCount (length bytes - headerSize)) ≡ count → eqb (getD bytes 1 0) commandCode ≡ command
         → cond short (answer invalidInput []) (cond (not count) (answer invalidInput []) (cond (not command) (answer invalidInput [])
         (answer done (getD bytes 3 0 / 2 ∷ [])))) ≡ answer done (source ∷ []) → Headed bytes source
     go true count command p q r e = absurd (not-done (source ∷ []) e)
@@ -80,8 +81,8 @@ body-taken bytes source e =
     go false true false p q r e = absurd (not-done (source ∷ []) e)
     go false true true p q r e =
         record {
-          long = ltb-false (length bytes) 4 p;
-          counted = eqb-true (getD bytes 2 0) (byteCount (length bytes - 4)) q;
+          long = ltb-false (length bytes) headerSize p;
+          counted = eqb-true (getD bytes 2 0) (byteCount (length bytes - headerSize)) q;
           command = eqb-true (getD bytes 1 0) commandCode r;
           halved = same-value e;
         }
@@ -142,8 +143,8 @@ decides pec input =
     let bytes = body pec input in
     by-cond Decides (pec && eqb (length input) 0) _ _ (λ _. refuses refl) (λ _.
     by-cond Decides (pec && not (eqb (pecOf (butLast input)) (lastByte input))) _ _ (λ _. refuses refl) (λ _.
-    by-cond Decides (ltb (length bytes) 4) _ _ (λ _. refuses refl) (λ _.
-    by-cond Decides (not (eqb (getD bytes 2 0) (byteCount (length bytes - 4)))) _ _ (λ _. refuses refl) (λ _.
+    by-cond Decides (ltb (length bytes) headerSize) _ _ (λ _. refuses refl) (λ _.
+    by-cond Decides (not (eqb (getD bytes 2 0) (byteCount (length bytes - headerSize)))) _ _ (λ _. refuses refl) (λ _.
     by-cond Decides (not (eqb (getD bytes 1 0) commandCode)) _ _ (λ _. refuses refl) (λ _.
     accepts (getD bytes 3 0 / 2) refl)))))
 
@@ -151,7 +152,7 @@ decides pec input =
 
 -- it stands behind the header, and where decode refuses there is none
 pub part-taken : (pec : Bool) (input vs : List ℕ) → decodeAnswer pec input ≡ answer done vs
-    → payloadPart pec input ≡ part 4 (length (body pec input) - 4)
+    → payloadPart pec input ≡ part headerSize (length (body pec input) - headerSize)
 unfolding payloadPart
 part-taken pec input vs e = rw e
 

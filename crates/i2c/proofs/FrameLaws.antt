@@ -11,7 +11,7 @@ use Rattle.checks.specs.PacketErrorCode.{pecOf}
 use Rattle.checks.proofs.Bytes.{bytes-append, bytes-each}
 use Rattle.checks.proofs.PacketErrorCode.{pec-below}
 use Rattle.i2c.specs.Encode.{frameSize}
-use Rattle.i2c.specs.Frame.{addressed, byteCount, closed, commandCode, frame, plain}
+use Rattle.i2c.specs.Frame.{addressMost, addressed, byteCount, closed, commandCode, frame, payloadMost, plain}
 use Rattle.i2c.specs.Laws.{FrameBytes, FrameLength}
 use Rattle.i2c.proofs.EncodeLaws.{encode-taken}
 
@@ -26,7 +26,7 @@ frame-length own dest n room pec payload e =
     (frame-size own dest pec payload ∙ t .whole, t .fits)
 
 -- header and payload, and then the PEC
-plain-bytes : (own dest : ℕ) (payload : List ℕ) → own ≤ 127 → dest ≤ 127 → length payload ≤ 254 → Bytes payload → Bytes (plain own dest payload)
+plain-bytes : (own dest : ℕ) (payload : List ℕ) → own ≤ addressMost → dest ≤ addressMost → length payload ≤ payloadMost → Bytes payload → Bytes (plain own dest payload)
 plain-bytes own dest payload h k fits bytes =
     let header : List ℕ = addressed dest 0 ∷ commandCode ∷ byteCount (length payload) ∷ addressed own 1 ∷ [] in
     bytes-append header payload (bytes-each header (omega arith, (omega arith, (omega arith, (omega arith, tt))))) bytes

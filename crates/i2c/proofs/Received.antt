@@ -14,7 +14,7 @@ use Rattle.checks.specs.PacketErrorCode.{pecOf}
 use Rattle.checks.specs.Part.{Inside, Part, bytesOf, noPart, part}
 use Rattle.checks.proofs.Last.{front-append, front-last, last-append}
 use Rattle.i2c.specs.Decode.{body, bodyAnswer, butLast, decodeAnswer, payloadPart}
-use Rattle.i2c.specs.Frame.{closed, headed, withPec}
+use Rattle.i2c.specs.Frame.{closed, headed, headerSize, withPec}
 use Rattle.i2c.specs.Laws.{NotTested, OnlyFrames, PayloadInside, PecOnly, WrongPecRefused}
 use Rattle.i2c.proofs.DecodeLaws.{Headed, accepts, closed-taken, decides, decode-plain, decode-right, decode-taken, decode-wrong, part-refused, part-taken, refuses}
 
@@ -36,7 +36,7 @@ pec-only bytes =
     ∙ ap bodyAnswer front
     ∙ sym (decode-plain false bytes refl)
     in
-    (same, ap₂ (λ (a : Answer) (xs : List ℕ). cond (eqb (a .number) done) (part 4 (length xs - 4)) noPart) same front)
+    (same, ap₂ (λ (a : Answer) (xs : List ℕ). cond (eqb (a .number) done) (part headerSize (length xs - headerSize)) noPart) same front)
 
 -- the body is not longer than the input
 body-within : (pec : Bool) (input : List ℕ) → length (body pec input) ≤ length input
@@ -64,14 +64,14 @@ decode-closed false bytes = refl
 
 -- and the payload is what stands behind the header
 pub payload-closed : (pec : Bool) (bytes : List ℕ) (source : ℕ) → decodeAnswer false bytes ≡ answer done (source ∷ [])
-    → bytesOf (payloadPart pec (closed pec bytes)) (closed pec bytes) ≡ drop 4 bytes
+    → bytesOf (payloadPart pec (closed pec bytes)) (closed pec bytes) ≡ drop headerSize bytes
 payload-closed false bytes source e =
-    ap (λ (p : Part). bytesOf p bytes) (part-taken false bytes (source ∷ []) e) ∙ part-to-end bytes 4
+    ap (λ (p : Part). bytesOf p bytes) (part-taken false bytes (source ∷ []) e) ∙ part-to-end bytes headerSize
 payload-closed true bytes source e =
-    let long : 4 ≤ length bytes = decode-taken false bytes source e .long in
+    let long : headerSize ≤ length bytes = decode-taken false bytes source e .long in
     ap (λ (p : Part). bytesOf p (withPec bytes)) (pec-only bytes .1 ∙ part-taken false bytes (source ∷ []) e)
-    ∙ ap (take (length bytes - 4)) (drop-append-le 4 bytes (pecOf bytes ∷ []) long)
-    ∙ take-at (drop 4 bytes) (pecOf bytes ∷ []) (length bytes - 4) (length-drop 4 bytes)
+    ∙ ap (take (length bytes - headerSize)) (drop-append-le headerSize bytes (pecOf bytes ∷ []) long)
+    ∙ take-at (drop headerSize bytes) (pecOf bytes ∷ []) (length bytes - headerSize) (length-drop headerSize bytes)
 
 -- ---- nothing else is accepted
 
@@ -83,7 +83,7 @@ closed-again true input source e =
     front-last input (omega (arith, t .some)) ∙ ap (λ (b : ℕ). butLast input ++ (b ∷ [])) (sym (t .agrees))
 
 -- and that is its payload, headed again
-headed-again : (bytes : List ℕ) (source : ℕ) → Headed bytes source → bytes ≡ headed (getD bytes 0 0) (getD bytes 3 0) (drop 4 bytes)
+headed-again : (bytes : List ℕ) (source : ℕ) → Headed bytes source → bytes ≡ headed (getD bytes 0 0) (getD bytes 3 0) (drop headerSize bytes)
 headed-again [] source h = absurd (omega (arith, h .long))
 headed-again (a ∷ []) source h = absurd (omega (arith, h .long))
 headed-again (a ∷ b ∷ []) source h = absurd (omega (arith, h .long))
@@ -97,7 +97,7 @@ only-frames pec input source e =
     let again = closed-again pec input source e in
     let same : decodeAnswer false bytes ≡ answer done (source ∷ []) = sym (decode-closed pec bytes) ∙ ap (decodeAnswer pec) (sym again) ∙ e in
     let h = decode-taken false bytes source same in
-    let behind : bytesOf (payloadPart pec input) input ≡ drop 4 bytes =
+    let behind : bytesOf (payloadPart pec input) input ≡ drop headerSize bytes =
     ap (λ (xs : List ℕ). bytesOf (payloadPart pec xs) xs) again ∙ payload-closed pec bytes source same
     in
     record {

@@ -6,24 +6,25 @@ use mathlib.Core.Path.{_≡_}
 use mathlib.Core.Bool.{true, false}
 use mathlib.Core.List.{List, [], _∷_, _++_}
 use lib.ListN.{replicate}
-use Rattle.checks.specs.Numbers.{answer, badAddress, badArgument, done, invalidInput}
+use Rattle.checks.specs.Numbers.{answer, done}
 use Rattle.checks.specs.Part.{noPart}
 use Rattle.i2c.specs.declared.encoder.Encoded.the-variants.{BadAddress, BadArgument, Done}
 use Rattle.i2c.specs.Decode.{decodeAnswer, payloadPart}
 use Rattle.i2c.specs.Encode.{encodeAnswer, encodeOutput}
 use Rattle.i2c.specs.Frame.{frame}
 use Rattle.i2c.specs.Laws.{Gives}
+use Rattle.i2c.specs.Numbers.{badAddress, badArgument, invalidInput}
 
 -- a packet
-abbrev pub packet : List ℕ
+abbrev packet : List ℕ
 packet = 0x01 ∷ 0x0a ∷ 0x09 ∷ 0xc8 ∷ 0x7e ∷ []
 
 -- its frame from 0x20 to 0x1d, written out
-abbrev pub written : List ℕ
+abbrev written : List ℕ
 written = 0x3a ∷ 0x0f ∷ 0x06 ∷ 0x41 ∷ 0x01 ∷ 0x0a ∷ 0x09 ∷ 0xc8 ∷ 0x7e ∷ []
 
 -- and its PEC
-abbrev pub writtenPec : List ℕ
+abbrev writtenPec : List ℕ
 writtenPec = written ++ (0x35 ∷ [])
 
 -- the byte count is 6 in both: the PEC is not counted

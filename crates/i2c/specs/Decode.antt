@@ -4,12 +4,13 @@ use mathlib.Core.Bool.{Bool, cond, not, _&&_}
 use mathlib.Core.List.{List, [], _∷_}
 use lib.Dec.{eqb, ltb}
 use lib.ListN.{length, getD, take}
-use Rattle.checks.specs.Numbers.{Answer, answer, done, invalidInput}
+use Rattle.checks.specs.Numbers.{Answer, answer, done}
 use Rattle.checks.specs.PacketErrorCode.{pecOf}
 use Rattle.checks.specs.Part.{Part, noPart, part}
 use Rattle.i2c.specs.declared.decoder.Decoded.{Decoded}
 use Rattle.i2c.specs.declared.decoder.Decoded.the-variants.{From, InvalidInput}
-use Rattle.i2c.specs.Frame.{byteCount, commandCode}
+use Rattle.i2c.specs.Frame.{byteCount, commandCode, headerSize}
+use Rattle.i2c.specs.Numbers.{invalidInput}
 
 -- the answer in document 01's numbers; the value is the source address
 abbrev pub decodedAnswer : Decoded → Answer
@@ -32,8 +33,8 @@ body pec input = cond pec (butLast input) input
 -- the fourth are not tested
 unfoldable pub bodyAnswer : List ℕ → Answer
 bodyAnswer bytes =
-    cond (ltb (length bytes) 4) (answer invalidInput [])
-    (cond (not (eqb (getD bytes 2 0) (byteCount (length bytes - 4)))) (answer invalidInput [])
+    cond (ltb (length bytes) headerSize) (answer invalidInput [])
+    (cond (not (eqb (getD bytes 2 0) (byteCount (length bytes - headerSize)))) (answer invalidInput [])
     (cond (not (eqb (getD bytes 1 0) commandCode)) (answer invalidInput [])
     (answer done (getD bytes 3 0 / 2 ∷ []))))
 
@@ -46,4 +47,4 @@ decodeAnswer pec input =
 
 -- the payload: what stands behind the header, where decode refuses nothing
 unfoldable pub payloadPart : Bool → List ℕ → Part
-payloadPart pec input = cond (eqb (decodeAnswer pec input .number) done) (part 4 (length (body pec input) - 4)) noPart
+payloadPart pec input = cond (eqb (decodeAnswer pec input .number) done) (part headerSize (length (body pec input) - headerSize)) noPart

@@ -6,6 +6,18 @@ use mathlib.Core.List.{List, [], _∷_, _++_}
 use lib.ListN.{length}
 use Rattle.checks.specs.PacketErrorCode.{pecOf}
 
+-- destination, command code, byte count and source, a byte each
+abbrev pub headerSize : ℕ
+headerSize = 4
+
+-- the most bytes of a payload: the byte count is one byte
+abbrev pub payloadMost : ℕ
+payloadMost = 254
+
+-- the largest address of 7 bits
+abbrev pub addressMost : ℕ
+addressMost = 127
+
 -- the SMBus command code of MCTP
 abbrev pub commandCode : ℕ
 commandCode = 0x0f

@@ -6,13 +6,14 @@ use mathlib.Core.Bool.{Bool, true, false}
 use mathlib.Core.List.{List, [], _∷_, _++_}
 use lib.ListN.{length, take}
 use Rattle.checks.specs.Laws.{Bytes}
-use Rattle.checks.specs.Numbers.{answer, done, invalidInput}
+use Rattle.checks.specs.Numbers.{answer, done}
 use Rattle.checks.specs.PacketErrorCode.{pecOf}
 use Rattle.checks.specs.Part.{Inside, bytesOf}
 use Rattle.i2c.specs.declared.encoder.Encoded.the-variants.{Done}
 use Rattle.i2c.specs.Decode.{decodeAnswer, payloadPart}
 use Rattle.i2c.specs.Encode.{encodeAnswer, encodeOutput}
 use Rattle.i2c.specs.Frame.{closed, frame, headed, withPec}
+use Rattle.i2c.specs.Numbers.{invalidInput}
 
 -- the frame has the length that encode answers, and there is room for it
 abbrev pub FrameLength : Type 0

@@ -1,5 +1,6 @@
 // Decode: an I2C frame's source address, and its payload as a part of the input.
 ghost use mathlib.Core.Path.{_≡_};
+ghost use Rattle.checks.specs.Numbers.{valueOf};
 ghost use Rattle.checks.specs.Part.{IsPart};
 ghost use Rattle.i2c.specs.Decode.{bodyAnswer, decodeAnswer, decodedAnswer, payloadPart};
 use crate::wire::MCTP_I2C_COMMAND_CODE;
@@ -9,6 +10,28 @@ use crate::wire::MCTP_I2C_HEADER;
 pub enum Decoded {
     From(u8),
     InvalidInput,
+}
+
+impl Decoded {
+    // The number of the answer (document 01, 'Numbers given back').
+    pub fn number(self) -> u32
+        ensures { λ r. ⌜ r ≡ decodedAnswer self .number ⌝ }
+    {
+        match self {
+            Decoded::From(_) => 0,
+            Decoded::InvalidInput => 5,
+        }
+    }
+
+    // The value that comes with it, the source address; 0 where there is none.
+    pub fn value(self) -> usize
+        ensures { λ r. ⌜ r ≡ valueOf (decodedAnswer self) ⌝ }
+    {
+        match self {
+            Decoded::From(source) => source as usize,
+            Decoded::InvalidInput => 0,
+        }
+    }
 }
 
 // The checks on header and payload, the PEC taken off.
@@ -54,9 +77,9 @@ pub fn payload(input: &[u8], pec: bool) -> &[u8]
         Decoded::From(_) => {
             if pec {
                 let end = input.len() - 1;
-                return &input[4..end];
+                return &input[MCTP_I2C_HEADER..end];
             }
-            &input[4..]
+            &input[MCTP_I2C_HEADER..]
         }
         Decoded::InvalidInput => &input[..0],
     }

@@ -1,12 +1,13 @@
 // The serial wire: the frame writer, and the receiver over a lent state.
 ghost use mathlib.Core.Path.{_≡_};
 ghost use lib.ListN.{length};
+ghost use Rattle.checks.specs.Numbers.{firstOf};
 ghost use Rattle.checks.specs.Output.{atStart};
 ghost use Rattle.framing.specs.Writer.{writerAnswer};
 ghost use Rattle.framing.specs.Frame.{frame};
 ghost use Rattle.serial.specs.Receiver.{freshOf};
 ghost use Rattle.pulevago.specs.Calls.{freshAnswer, handedPart, left, reasonNumber, stepAnswerIn, stepLeaves, takeAnswerIn, takeLeaves, takeOutput, takenIn, testAnswer};
-ghost use Rattle.pulevago.specs.Lent.{firstOf, given};
+ghost use Rattle.pulevago.specs.Lent.{given};
 use crate::numbers::ALLOWANCE_SPENT;
 use crate::numbers::BAD_LENGTH;
 use crate::numbers::DONE;

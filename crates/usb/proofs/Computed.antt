@@ -1,15 +1,9 @@
--- What these transfers, inputs and packets make is computed from the definitions. It rests on no law, so that an error in a definition shows
--- here and not in the words of a proof that no longer fits. Assumes nothing.
+-- What these inputs and headers make is computed from the definitions. It rests on no law, so that an error in a definition shows here and not in the
+-- words of a proof that no longer fits. Assumes nothing.
 use mathlib.Core.Path.{refl}
-use Rattle.usb.specs.Builder.{appendAnswer, appendOutput, usedAfter}
-use Rattle.usb.specs.Computed.{HeadersMade, NearMisses, PacketsAppended, TransfersWalked}
+use Rattle.usb.specs.Computed.{HeadersMade, NearMisses}
 use Rattle.usb.specs.Decode.{decodeAnswer}
 use Rattle.usb.specs.Header.{headerAnswer}
-use Rattle.usb.specs.Walk.{walk, walkAnswer}
-
-pub transfers-walked : TransfersWalked
-unfolding walk walkAnswer decodeAnswer
-transfers-walked = (refl, refl, refl, refl)
 
 pub near-misses : NearMisses
 unfolding decodeAnswer
@@ -18,7 +12,3 @@ near-misses = (refl, refl, refl, refl, refl)
 pub headers-made : HeadersMade
 unfolding headerAnswer
 headers-made = (refl, refl, refl, refl)
-
-pub packets-appended : PacketsAppended
-unfolding appendAnswer appendOutput usedAfter
-packets-appended = (refl, refl, refl, refl, refl, refl, refl, refl, refl, refl)

@@ -2,10 +2,4 @@ pub mod Answers
 pub mod Computed
 pub mod DecodeLaws
 pub mod Headers
-pub mod Held
-pub mod Limit
-pub mod Offered
 pub mod OneResult
-pub mod OneWalk
-pub mod Transfers
-pub mod Turns

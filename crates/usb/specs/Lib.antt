@@ -1,6 +1,5 @@
+pub mod Numbers
 pub mod Header
 pub mod Decode
-pub mod Builder
-pub mod Walk
-pub mod Transfers
+pub mod Laws
 pub mod Computed

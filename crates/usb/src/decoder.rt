@@ -1,5 +1,6 @@
 // Decode: the packet at the start of a transfer and what is behind it, both as parts of the input.
 ghost use mathlib.Core.Path.{_≡_};
+ghost use Rattle.checks.specs.Numbers.{valueOf};
 ghost use Rattle.checks.specs.Part.{IsPart};
 ghost use Rattle.usb.specs.Decode.{decodeAnswer, decodedAnswer, packetPart, remainderPart};
 use crate::wire::FIRST_BYTE;
@@ -10,6 +11,28 @@ use crate::wire::SECOND_BYTE;
 pub enum Decoded {
     Packet(usize),
     RxFailure,
+}
+
+impl Decoded {
+    // The number of the answer (document 01, 'Numbers given back').
+    pub fn number(self) -> u32
+        ensures { λ r. ⌜ r ≡ decodedAnswer self .number ⌝ }
+    {
+        match self {
+            Decoded::Packet(_) => 0,
+            Decoded::RxFailure => 7,
+        }
+    }
+
+    // The value that comes with it, the packet's length; 0 where there is none.
+    pub fn value(self) -> usize
+        ensures { λ r. ⌜ r ≡ valueOf (decodedAnswer self) ⌝ }
+    {
+        match self {
+            Decoded::Packet(n) => n,
+            Decoded::RxFailure => 0,
+        }
+    }
 }
 
 // The length of the packet behind the header at the input's start; `packet` and `remainder` give the parts. It refuses (RxFailure, number 7), in this
@@ -42,7 +65,7 @@ pub fn packet(input: &[u8]) -> &[u8]
     ensures { λ r. ⌜ IsPart r (input .entry) (packetPart (now (input .entry))) ⌝ }
 {
     match decode(input) {
-        Decoded::Packet(n) => &input[4..4 + n],
+        Decoded::Packet(n) => &input[HDR_LEN..HDR_LEN + n],
         Decoded::RxFailure => &input[..0],
     }
 }
@@ -53,7 +76,7 @@ pub fn remainder(input: &[u8]) -> &[u8]
 {
     match decode(input) {
         Decoded::Packet(n) => {
-            let end = 4 + n;
+            let end = HDR_LEN + n;
             &input[end..]
         }
         Decoded::RxFailure => &input[..0],

@@ -13,6 +13,18 @@ pub enum Headed {
     BadPacket,
 }
 
+impl Headed {
+    // The number of the answer (document 01, 'Numbers given back').
+    pub fn number(self) -> u32
+        ensures { λ r. ⌜ r ≡ headedAnswer self .number ⌝ }
+    {
+        match self {
+            Headed::Done => 0,
+            Headed::BadPacket => 6,
+        }
+    }
+}
+
 // Writes the header of a packet of `size` bytes. It refuses a lent header that has not 4 bytes, and a packet over 251 bytes (BadPacket, number 6); then
 // nothing is written.
 pub fn header(size: usize, out: &mut [u8]) -> Headed
@@ -28,6 +40,6 @@ pub fn header(size: usize, out: &mut [u8]) -> Headed
     out[0] = FIRST_BYTE;
     out[1] = SECOND_BYTE;
     out[2] = 0;
-    out[3] = (size + 4) as u8;
+    out[3] = (size + HDR_LEN) as u8;
     Headed::Done
 }

@@ -3,7 +3,7 @@ use crate::render;
 use crate::rooms;
 use crate::rooms::LONGEST;
 use crate::text;
-use usb::Appended;
+use transfer::Appended;
 use usb::Decoded;
 use usb::Headed;
 
@@ -89,7 +89,7 @@ pub(crate) fn append(line: &[u8], out: &mut [u8]) -> usize {
 
 // The results of append into the lent output.
 fn appended(packet: &[u8], used: usize, lent: &mut [u8], out: &mut [u8]) -> usize {
-    let built = usb::append(packet, lent, used);
+    let built = transfer::append(packet, lent, used);
     let answer = built.answer;
     let end = render::decimal(out, 0, append_number(answer));
     let used_at = render::space(out, end);

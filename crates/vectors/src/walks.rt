@@ -3,7 +3,7 @@ use crate::packets;
 use crate::render;
 use crate::rooms::LONGEST_STREAM;
 use crate::text;
-use usb::Walked;
+use transfer::Walked;
 
 // `usb-walk TRANSFER PLACE`: PACKETS NUMBER PLACE.
 pub(crate) fn walk(line: &[u8], out: &mut [u8]) -> usize {
@@ -26,11 +26,11 @@ fn walked(transfer: &[u8], start: usize, out: &mut [u8]) -> usize {
     let mut end = 0;
     let mut turns = transfer.len() / 4 + 1;
     while 0 < turns {
-        if !is_packet(usb::walk_at(transfer, place)) {
+        if !is_packet(transfer::walk_at(transfer, place)) {
             break;
         }
-        end = packets::add(out, end, place, usb::part_at(transfer, place));
-        place = usb::place_after(transfer, place);
+        end = packets::add(out, end, place, transfer::part_at(transfer, place));
+        place = transfer::place_after(transfer, place);
         turns -= 1;
     }
     stopped(transfer, place, end, out)
@@ -50,7 +50,11 @@ fn is_packet(answer: Walked) -> bool {
 fn stopped(transfer: &[u8], place: usize, end: usize, out: &mut [u8]) -> usize {
     let packets_end = packets::close(out, end);
     let number_at = render::space(out, packets_end);
-    let number_end = render::decimal(out, number_at, walk_number(usb::walk_at(transfer, place)));
+    let number_end = render::decimal(
+        out,
+        number_at,
+        walk_number(transfer::walk_at(transfer, place)),
+    );
     let place_at = render::space(out, number_end);
     let place_end = render::decimal(out, place_at, place);
     if stays(transfer, place) {
@@ -70,14 +74,14 @@ fn walk_number(answer: Walked) -> usize {
 
 // Whether a walker that yields no packet at the place stays there, with the same answer, when it is asked twice more.
 fn stays(transfer: &[u8], place: usize) -> bool {
-    let first = usb::place_after(transfer, place);
-    let second = usb::place_after(transfer, first);
-    let number = walk_number(usb::walk_at(transfer, place));
+    let first = transfer::place_after(transfer, place);
+    let second = transfer::place_after(transfer, first);
+    let number = walk_number(transfer::walk_at(transfer, place));
     (first == place)
         & (second == place)
-        & same_end(usb::walk_at(transfer, first), number)
-        & same_end(usb::walk_at(transfer, second), number)
-        & (usb::part_at(transfer, place).len() == 0)
+        & same_end(transfer::walk_at(transfer, first), number)
+        & same_end(transfer::walk_at(transfer, second), number)
+        & (transfer::part_at(transfer, place).len() == 0)
 }
 
 // Whether the answer yields no packet and has the number.

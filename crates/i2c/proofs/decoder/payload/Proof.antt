@@ -1,4 +1,4 @@
--- `i2c::payload` meets its contract: where decode answers a source, what it returns is the input from place 4 on, up to the PEC or to its end;
+-- `i2c::payload` meets its contract: where decode answers a source, what it returns is the input from behind the header on, up to the PEC or to its end;
 -- the checks that decode made keep that part within the input. Assumes nothing.
 use Prim.Native.Nat.{ℕ, _-_, _≤_}
 use mathlib.Core.Path.{_≡_, _∙_, ap, sym}
@@ -13,6 +13,7 @@ use Rattle.checks.specs.Part.{part}
 use Rattle.checks.proofs.Numbers.{matched}
 use Rattle.checks.proofs.Part.{empty-part, equal-parts}
 use Rattle.i2c.specs.Decode.{body, decodeAnswer, decodedAnswer, payloadPart}
+use Rattle.i2c.specs.Frame.{headerSize}
 use Rattle.i2c.proofs.DecodeLaws.{decode-taken, part-refused, part-taken}
 use Rattle.i2c.proofs.decoder.payload.Statement.{statement}
 use Rattle.i2c.proofs.decoder.payload.Tie as tie
@@ -20,11 +21,11 @@ use Rattle.i2c.proofs.decoder.payload.Tie as tie
 -- an input of which a source is answered, and which has n bytes without its PEC: the header is within them, and the payload behind it
 module _ (pec : Bool) (input : List ℕ) (source n : ℕ) (e : decodeAnswer pec input ≡ answer done (source ∷ []))
     (size : length (body pec input) ≡ n) where
-  long : 4 ≤ n
+  long : headerSize ≤ n
   long = omega (arith, decode-taken pec input source e .long)
 
-  lies : part 4 (n - 4) ≡ payloadPart pec input
-  lies = ap (λ (k : ℕ). part 4 (k - 4)) (sym size) ∙ sym (part-taken pec input (source ∷ []) e)
+  lies : part headerSize (n - headerSize) ≡ payloadPart pec input
+  lies = ap (λ (k : ℕ). part headerSize (k - headerSize)) (sym size) ∙ sym (part-taken pec input (source ∷ []) e)
 
 -- how many bytes those are, with PEC and without
 with-pec : (pec : Bool) (input : List ℕ) → pec ≡ true → length (body pec input) ≡ length input - 1

@@ -7,16 +7,17 @@ use mathlib.Core.List.{List, [], _∷_}
 use native.Mathlib.Omega.{arith}
 use lib.ListN.{length}
 use borrow.Author.Needs.{needs}
-use Rattle.checks.specs.Numbers.{answer, badArgument, done}
+use Rattle.checks.specs.Numbers.{answer, done}
 use Rattle.checks.specs.Output.{atStart}
 use Rattle.i2c.specs.Encode.{encodeAnswer, encodeOutput, frameSize}
-use Rattle.i2c.specs.Frame.{frame}
+use Rattle.i2c.specs.Frame.{addressMost, frame, payloadMost}
+use Rattle.i2c.specs.Numbers.{badArgument}
 use Rattle.i2c.proofs.EncodeLaws.{bad-dest, bad-own, no-room, too-long, with-room}
 use Rattle.i2c.proofs.encoder.encode.Statement.{statement}
 use Rattle.i2c.proofs.encoder.encode.Tie as tie
 
 -- where it is known whether there is a PEC (`t`), the frame and its size are those of that case
-module _ (own dest room : ℕ) (pec t : Bool) (payload : List ℕ) (e : pec ≡ t) (h : own ≤ 127) (k : dest ≤ 127) (fits : length payload ≤ 254) where
+module _ (own dest room : ℕ) (pec t : Bool) (payload : List ℕ) (e : pec ≡ t) (h : own ≤ addressMost) (k : dest ≤ addressMost) (fits : length payload ≤ payloadMost) where
   same-size : frameSize pec (length payload) ≡ frameSize t (length payload)
   same-size = ap (λ (b : Bool). frameSize b (length payload)) e
 
@@ -46,6 +47,9 @@ returns-3 : tie.Need-returns-3
 unfolding encodeOutput
 returns-3 c = (too-long _ _ _ _ _ (omega arith) (omega arith) (omega arith), refl)
 
+add-whole : tie.Need-add-whole
+add-whole c = search needs
+
 add-if5 : tie.Need-add-if5
 add-if5 c = search needs
 
@@ -58,8 +62,8 @@ returns-4 c =
 write-with-pec-requires : tie.Need-write-with-pec-requires
 write-with-pec-requires c κs = (omega arith, omega arith, omega arith, omega arith)
 
-add-t8 : tie.Need-add-t8
-add-t8 c = search needs
+add-t9 : tie.Need-add-t9
+add-t9 c = search needs
 
 same-length : tie.Need-same-length
 same-length c = search needs
@@ -74,9 +78,6 @@ returns-5 c =
       as-wanted (a .own) (a .dest) (a .pec) true (a .payload .now) (a .out .now) _ (p .if4 .taken) (w .write-with-pec .ensures),
     )
 
-add-if6 : tie.Need-add-if6
-add-if6 c = search needs
-
 returns-6 : tie.Need-returns-6
 unfolding encodeOutput
 returns-6 c =
@@ -85,9 +86,6 @@ returns-6 c =
 
 write-plain-requires : tie.Need-write-plain-requires
 write-plain-requires c κs = (omega arith, omega arith, omega arith, omega arith)
-
-add-t14 : tie.Need-add-t14
-add-t14 c = search needs
 
 same-length-2 : tie.Need-same-length-2
 same-length-2 c = search needs
@@ -109,15 +107,14 @@ encode-spec =
     returns
     returns-2
     returns-3
+    add-whole
     add-if5
     returns-4
     write-with-pec-requires
-    add-t8
+    add-t9
     same-length
     returns-5
-    add-if6
     returns-6
     write-plain-requires
-    add-t14
     same-length-2
     returns-7)

@@ -10,7 +10,7 @@ use borrow.Author.Needs.{needs}
 use Rattle.checks.specs.Output.{atStart}
 use Rattle.checks.specs.PacketErrorCode.{pecOf}
 use Rattle.checks.proofs.Output.{start-next}
-use Rattle.i2c.specs.Frame.{plain, withPec}
+use Rattle.i2c.specs.Frame.{headerSize, plain, withPec}
 use Rattle.i2c.proofs.encoder.write_with_pec.Statement.{statement}
 use Rattle.i2c.proofs.encoder.write_with_pec.Tie as tie
 
@@ -38,7 +38,7 @@ slice-reshare-prefix-pec c = search needs
 slice-aggregate-pec : tie.Need-slice-aggregate-pec
 slice-aggregate-pec c =
     let a = c .before .before .before .before .before .before .before .args in
-    sym (length-take-le (4 + length (a .payload .now)) _ (slice-reshare-prefix-pec (c .before)))
+    sym (length-take-le (headerSize + length (a .payload .now)) _ (slice-reshare-prefix-pec (c .before)))
 
 pec-requires : tie.Need-pec-requires
 pec-requires c κs = search needs

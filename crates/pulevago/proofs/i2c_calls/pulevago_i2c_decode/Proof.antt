@@ -9,12 +9,11 @@ use lib.ListN.{length}
 use lib.Seq.{length-take-le}
 use borrow.Author.Needs.{needs}
 use denote.Ref.{now}
-use Rattle.checks.specs.Numbers.{answer, done}
+use Rattle.checks.specs.Numbers.{answer, done, firstOf}
 use Rattle.checks.specs.Part.{Part}
 use Rattle.checks.proofs.Numbers.{matched}
 use Rattle.i2c.specs.Decode.{body, decodeAnswer, decodedAnswer}
 use Rattle.i2c.proofs.DecodeLaws.{decode-taken, part-taken}
-use Rattle.pulevago.specs.Lent.{firstOf}
 use Rattle.pulevago.proofs.Said.{number-said, values-said}
 use Rattle.pulevago.proofs.i2c_calls.pulevago_i2c_decode.Statement.{statement}
 use Rattle.pulevago.proofs.i2c_calls.pulevago_i2c_decode.Tie as tie

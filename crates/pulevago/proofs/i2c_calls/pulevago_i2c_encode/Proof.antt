@@ -3,10 +3,10 @@
 use mathlib.Core.Path.{_∙_, ap, refl}
 use borrow.Author.Needs.{needs}
 use denote.Ref.{now}
+use Rattle.checks.specs.Numbers.{firstOf}
 use Rattle.checks.proofs.Numbers.{matched}
 use Rattle.i2c.specs.declared.encoder.Encoded.{Encoded}
 use Rattle.i2c.specs.Encode.{encodeOutput, encodedAnswer}
-use Rattle.pulevago.specs.Lent.{firstOf}
 use Rattle.pulevago.proofs.Said.{number-said, values-said}
 use Rattle.pulevago.proofs.i2c_calls.pulevago_i2c_encode.Statement.{statement}
 use Rattle.pulevago.proofs.i2c_calls.pulevago_i2c_encode.Tie as tie

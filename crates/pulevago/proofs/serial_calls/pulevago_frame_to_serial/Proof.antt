@@ -3,11 +3,11 @@
 use mathlib.Core.Path.{_∙_, ap, refl}
 use borrow.Author.Needs.{needs}
 use denote.Ref.{now}
+use Rattle.checks.specs.Numbers.{firstOf}
 use Rattle.checks.proofs.Numbers.{matched}
 use Rattle.framing.specs.declared.frame.Written.{Written}
 use Rattle.framing.specs.Writer.{writtenAnswer}
 use Rattle.framing.specs.Writer.{outputOf}
-use Rattle.pulevago.specs.Lent.{firstOf}
 use Rattle.pulevago.proofs.Said.{number-said, values-said}
 use Rattle.pulevago.proofs.serial_calls.pulevago_frame_to_serial.Statement.{statement}
 use Rattle.pulevago.proofs.serial_calls.pulevago_frame_to_serial.Tie as tie

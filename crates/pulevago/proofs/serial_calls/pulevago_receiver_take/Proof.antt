@@ -5,6 +5,7 @@ use mathlib.Core.List.{[]}
 use lib.ListN.{length}
 use borrow.Author.Needs.{needs}
 use denote.Ref.{now}
+use Rattle.checks.specs.Numbers.{firstOf}
 use Rattle.serial.specs.declared.receiver.Receiver.{Receiver}
 use Rattle.serial.specs.declared.taker.Reason.{Reason}
 use Rattle.serial.specs.declared.taker.Taken.{Taken}
@@ -13,7 +14,6 @@ use Rattle.serial.specs.Consistency.{Consistent}
 use Rattle.serial.proofs.Consistent.{facts}
 use Rattle.serial.proofs.HandsBack.{taker-hands-back}
 use Rattle.pulevago.specs.Calls.{reasonNumber, takeAnswerIn, takeLeaves, takeOutput, takenIn}
-use Rattle.pulevago.specs.Lent.{firstOf}
 use Rattle.pulevago.proofs.InBuffer.{loaded-size, take-answer, take-copied, take-count, take-left, take-reason, take-unfit, unfit}
 use Rattle.pulevago.proofs.Said.{number-said, values-said}
 use Rattle.pulevago.proofs.serial_calls.pulevago_receiver_take.Statement.{statement}

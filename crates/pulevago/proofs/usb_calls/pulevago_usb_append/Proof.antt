@@ -2,7 +2,7 @@
 -- nothing.
 use borrow.Author.Needs.{needs}
 use Rattle.checks.proofs.Numbers.{matched}
-use Rattle.usb.specs.Builder.{appendedAnswer}
+use Rattle.transfer.specs.Builder.{appendedAnswer}
 use Rattle.pulevago.proofs.Said.{number-said}
 use Rattle.pulevago.proofs.usb_calls.pulevago_usb_append.Statement.{statement}
 use Rattle.pulevago.proofs.usb_calls.pulevago_usb_append.Tie as tie

@@ -10,8 +10,8 @@ use denote.Ref.{now}
 use Rattle.checks.specs.Numbers.{Answer, answer, done}
 use Rattle.checks.proofs.Numbers.{matched}
 use Rattle.usb.specs.Decode.{packetAt}
-use Rattle.usb.specs.Walk.{placeBehind, walkedAnswer}
-use Rattle.usb.proofs.DecodeLaws.{walked-inside}
+use Rattle.transfer.specs.Walk.{placeBehind, walkedAnswer}
+use Rattle.transfer.proofs.WalkLaws.{walked-inside}
 use Rattle.pulevago.proofs.Said.{number-said, values-said}
 use Rattle.pulevago.proofs.usb_calls.pulevago_usb_walk.Statement.{statement}
 use Rattle.pulevago.proofs.usb_calls.pulevago_usb_walk.Tie as tie

@@ -10,6 +10,7 @@ use Rattle.checks.specs.Part.{noPart}
 use Rattle.checks.proofs.Numbers.{matched}
 use Rattle.checks.proofs.Part.{empty-part}
 use Rattle.usb.specs.Decode.{decodedAnswer}
+use Rattle.usb.specs.Header.{headerSize}
 use Rattle.usb.proofs.DecodeLaws.{gave-inside}
 use Rattle.usb.proofs.decoder.packet.Statement.{statement}
 use Rattle.usb.proofs.decoder.packet.Tie as tie
@@ -46,8 +47,8 @@ returns : tie.Need-returns
 returns c =
     let l = c .before .before in
     let s = l .before .before .before .before .args .input .now in
-    let size = add-sub-cancel-left 4 (l .n .given .0 .0) in
-    rw (matched decodedAnswer (l .before .before .decode .ensures) (l .n .given .1)) (ap (λ (k : ℕ). take k (drop 4 s)) size, refl)
+    let size = add-sub-cancel-left headerSize (l .n .given .0 .0) in
+    rw (matched decodedAnswer (l .before .before .decode .ensures) (l .n .given .1)) (ap (λ (k : ℕ). take k (drop headerSize s)) size, refl)
 
 returns-2 : tie.Need-returns-2
 returns-2 c =

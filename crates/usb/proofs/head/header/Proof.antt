@@ -7,16 +7,16 @@ use lib.ListN.{drop-of-length-le, length, set}
 use borrow.Author.Needs.{needs}
 use borrow.Author.Tests.{eq-eqb, le-leb, lt-leb, ne-eqb}
 use Rattle.checks.proofs.Output.{put-four}
-use Rattle.usb.specs.Header.{firstByte, headerAnswer, headerOf, headerOutput, secondByte}
+use Rattle.usb.specs.Header.{firstByte, headerAnswer, headerOf, headerOutput, headerSize, secondByte}
 use Rattle.usb.proofs.head.header.Statement.{statement}
 use Rattle.usb.proofs.head.header.Tie as tie
 
 -- the four bytes are stored one behind the other, and nothing is behind them
-four-stores : (d : List ℕ) (size : ℕ) → length d ≡ 4
-    → set (set (set (set d 0 firstByte) 1 secondByte) 2 0x00) 3 (size + 4) ≡ headerOf size
+four-stores : (d : List ℕ) (size : ℕ) → length d ≡ headerSize
+    → set (set (set (set d 0 firstByte) 1 secondByte) 2 0x00) 3 (size + headerSize) ≡ headerOf size
 four-stores d size e =
-    put-four 0 firstByte secondByte 0x00 (size + 4) d (omega arith)
-    ∙ ap (λ (behind : List ℕ). headerOf size ++ behind) (drop-of-length-le d {i = 4} (omega arith))
+    put-four 0 firstByte secondByte 0x00 (size + headerSize) d (omega arith)
+    ∙ ap (λ (behind : List ℕ). headerOf size ++ behind) (drop-of-length-le d {i = headerSize} (omega arith))
 
 returns : tie.Need-returns
 unfolding headerAnswer headerOutput

@@ -1,0 +1,11 @@
+pub mod Answers
+pub mod Computed
+pub mod Held
+pub mod Limit
+pub mod Offered
+pub mod OneResult
+pub mod OneWalk
+pub mod Refuted
+pub mod Transfers
+pub mod Turns
+pub mod WalkLaws

@@ -1,0 +1,4 @@
+pub mod Builder
+pub mod Walk
+pub mod Transfers
+pub mod Computed
