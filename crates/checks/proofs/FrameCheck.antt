@@ -1,18 +1,17 @@
--- Laws of the frame check's register: it keeps xor, it stays below 65,536, its bits enter low first, and a byte's step by the table.
--- Assumes nothing.
+-- Laws of the frame check's register: it keeps xor, it stays below 65,536, its bits enter low first, and n of its bit steps are those of the low n
+-- bits, and the rest moved on. Assumes nothing.
 use Prim.Native.Nat.{ℕ, zero, suc, _*_, _/_, _%_, _^_, _<_}
 use mathlib.Core.Path.{_≡_, _∙_, ap, ap₂, subst, sym}
 use mathlib.Core.List.{List}
-use native.Mathlib.Nat.{div-div-eq-div-mul, div-eq-of-lt, mod-lt, mul-one, zero-mul}
+use native.Mathlib.Nat.{div-div-eq-div-mul, mod-lt, mul-one, zero-mul}
 use native.Mathlib.Omega.{arith}
-use lib.Bits.{bitXor, shifted-even, shifted-half, xor-lt, xor-shifted, xor-shr, xor-zero-r}
+use lib.Bits.{bitXor, shifted-even, shifted-half, xor-lt, xor-shifted, xor-zero-r}
 use lib.Pow.{pow-pos, split}
 use Rattle.checks.specs.Register.{bitStep, bitSteps, byteStep}
-use Rattle.checks.specs.FrameCheck.{frameCheckFrom, frameNext, frameRegister, frameTable, StepByTable}
+use Rattle.checks.specs.FrameCheck.{frameCheckFrom, frameRegister}
 use Rattle.checks.specs.Laws.{Bytes, StaysBelow, LinearOverXor, Differences}
 use Rattle.checks.specs.BitOrder.{bitEnters, bitsEnter, highFirst, InOrder, lowFirst, NotInOrder}
-use Rattle.checks.proofs.Register.{KeepsXor, differences, in-order, leavings, left, linear, stays-below, steps-xor}
-use Rattle.checks.proofs.Table.{entry}
+use Rattle.checks.proofs.Register.{KeepsXor, differences, in-order, leavings, linear, remaining, stays-below, steps-xor}
 use Rattle.checks.proofs.Xor.{half-xor, low-bit, low-xor}
 
 keeps-xor : KeepsXor frameRegister
@@ -38,11 +37,11 @@ frame-fits bytes r last h k e = subst (λ (x : ℕ). x < 65536) (sym e) (frame-b
 leave-low-first : (b : ℕ) → leavings frameRegister 8 b ≡ lowFirst b
 leave-low-first b = simp div-div-eq-div-mul
 
-none-left : (b : ℕ) → b < 256 → left frameRegister 8 b ≡ 0
-none-left b h = simp div-div-eq-div-mul (omega arith)
+none-remaining : (b : ℕ) → b < 256 → remaining frameRegister 8 b ≡ 0
+none-remaining b h = simp div-div-eq-div-mul (omega arith)
 
 pub frame-low-first : InOrder lowFirst frameRegister
-frame-low-first = in-order frameRegister keeps-xor lowFirst leave-low-first none-left
+frame-low-first = in-order frameRegister keeps-xor lowFirst leave-low-first none-remaining
 
 -- a register of 0 and the byte 01 tell the two orders apart
 pub frame-not-high-first : NotInOrder highFirst frameRegister
@@ -61,23 +60,9 @@ unfolding bitSteps
 steps-even zero a = mul-one a
 steps-even (suc n) a = ap (bitSteps frameRegister n) (step-even a n) ∙ steps-even n a
 
--- n bit steps are those of the low n bits, and the rest moved on: what a table of 2 ^ n entries rests on
+-- n bit steps are those of the low n bits, and the rest moved on
 pub low-bits : (n x : ℕ) → bitSteps frameRegister n x ≡ bitXor (x / 2 ^ n) (bitSteps frameRegister n (x % 2 ^ n))
 low-bits n x =
     ap (bitSteps frameRegister n) (sym (split x n) ∙ sym (xor-shifted (x / 2 ^ n) n (x % 2 ^ n) (mod-lt x (pow-pos n))))
     ∙ steps-xor frameRegister keeps-xor n (x / 2 ^ n * 2 ^ n) (x % 2 ^ n)
     ∙ ap (λ (y : ℕ). bitXor y (bitSteps frameRegister n (x % 2 ^ n))) (steps-even n (x / 2 ^ n))
-
--- a byte's step: the entry, by the table's rule, and the register's high byte
-pub by-table : StepByTable
-unfolding byteStep
-by-table r b h =
-    let low = bitXor r b % 256 in
-    sym (low-bits 8 (bitXor r b)
-    ∙ ap₂ bitXor
-    (xor-shr r b 8 ∙ ap (bitXor (r / 256)) (div-eq-of-lt h) ∙ xor-zero-r (r / 256))
-    (sym (entry (bitSteps frameRegister 8) 256 low (omega arith))))
-
--- and so by a table that a function has fetched
-pub by-fetched-table : (table : List ℕ) (r b : ℕ) → table ≡ frameTable → b < 256 → frameNext table r b ≡ byteStep frameRegister r b
-by-fetched-table table r b e h = ap (λ (t : List ℕ). frameNext t r b) e ∙ by-table r b h

@@ -1,7 +1,8 @@
-pub mod Table
-pub mod Xor
+mod Table
+mod Xor
 pub mod Register
 pub mod FrameCheck
+mod FrameStep
 pub mod PacketErrorCode
 pub mod Part
 pub mod Numbers

@@ -61,9 +61,9 @@ abbrev pub leavings : Register → ℕ → ℕ → List ℕ
 leavings g zero b = []
 leavings g (suc n) b = g .leaving b ∷ leavings g n (g .moved b)
 
-abbrev pub left : Register → ℕ → ℕ → ℕ
-left g zero b = b
-left g (suc n) b = left g n (g .moved b)
+abbrev pub remaining : Register → ℕ → ℕ → ℕ
+remaining g zero b = b
+remaining g (suc n) b = remaining g n (g .moved b)
 
 module _ (g : Register) (keeps : KeepsXor g) where
   step-xor : (a b : ℕ) → bitStep g (bitXor a b) ≡ bitXor (bitStep g a) (bitStep g b)
@@ -103,7 +103,7 @@ module _ (g : Register) (keeps : KeepsXor g) where
       ap₂ (λ (m d : ℕ). bitXor m (d * g .polynomial)) (keeps .moved-xor r b) (keeps .leaving-xor r b)
       ∙ xor-right (g .moved r) (g .moved b) (differ (g .leaving r) (g .leaving b) * g .polynomial)
 
-  steps-enter : (n r b : ℕ) → bitSteps g n (bitXor r b) ≡ bitXor (bitsEnter g r (leavings g n b)) (left g n b)
+  steps-enter : (n r b : ℕ) → bitSteps g n (bitXor r b) ≡ bitXor (bitsEnter g r (leavings g n b)) (remaining g n b)
   unfolding bitSteps bitsEnter
   steps-enter zero r b = refl
   steps-enter (suc n) r b =
@@ -111,7 +111,7 @@ module _ (g : Register) (keeps : KeepsXor g) where
 
   -- where the eight bits that leave a byte are these, and nothing is left, they enter in this order
   pub in-order : (bitsOf : ℕ → List ℕ)
-      → ((b : ℕ) → leavings g 8 b ≡ bitsOf b) → ((b : ℕ) → b < 256 → left g 8 b ≡ 0) → InOrder bitsOf g
+      → ((b : ℕ) → leavings g 8 b ≡ bitsOf b) → ((b : ℕ) → b < 256 → remaining g 8 b ≡ 0) → InOrder bitsOf g
   unfolding byteStep
   in-order bitsOf leave none r b h =
       steps-enter 8 r b

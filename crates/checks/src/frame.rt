@@ -1,24 +1,12 @@
-// The frame check of the serial binding (DSP0253), a byte at a time by a table of 256 entries. It is the register of RFC 1662's FCS as it
-// stands, without complement; the sender puts its high byte first.
+// The frame check of the serial binding (DSP0253). It is the register of RFC 1662's FCS as it stands, without complement; the sender puts its high byte
+// first. A slice goes by a table of 256 entries, a single byte by shifts.
 ghost use mathlib.Core.Path.{_≡_};
-ghost use Rattle.checks.specs.FrameCheck.{frameNext, frameCheckFrom, frameCheck};
+ghost use Rattle.checks.specs.Register.{byteStep};
+ghost use Rattle.checks.specs.FrameCheck.{frameRegister, frameCheckFrom, frameCheck};
 use crate::frame_entries::frame_table;
 
 // What the register starts with.
 pub const FRAME_START: u16 = 0xffff;
-
-// The register after one byte, by a table; an entry beyond the table's end is 0. With the table of `frame_table` it is the register after that
-// byte of the frame check. A loop keeps it in 32 bits, which costs less than 16. It refuses nothing and changes nothing.
-pub fn frame_next(table: &[u16], register: u32, b: u8) -> u32
-    ensures { λ r. ⌜ r ≡ frameNext (now (table .entry)) register b ⌝ }
-{
-    let high = register >> 8;
-    let low = ((register ^ (b as u32)) % 256) as usize;
-    if low >= table.len() {
-        return high;
-    }
-    high ^ (table[low] as u32)
-}
 
 // The frame check of the bytes, of any number of them, also none (0xffff). It refuses nothing and changes nothing.
 pub fn frame_check(bytes: &[u8]) -> u16
@@ -36,8 +24,19 @@ pub fn frame_check_from(register: u16, bytes: &[u8]) -> u16
     let mut reg = register as u32;
     let mut i = 0;
     while i < bytes.len() {
-        reg = frame_next(&table, reg, bytes[i]);
+        let low = ((reg ^ (bytes[i] as u32)) % 256) as usize;
+        reg = (reg >> 8) ^ (table[low] as u32);
         i += 1;
     }
     reg as u16
+}
+
+// The register after one byte, from any register on, for a loop that does more with a byte than to check it. It is kept in 32 bits, which costs less
+// than 16. It refuses nothing and changes nothing.
+pub fn frame_next(register: u32, b: u8) -> u32
+    ensures { λ r. ⌜ r ≡ byteStep frameRegister register b ⌝ }
+{
+    let entered = register ^ (b as u32);
+    let spread = (entered ^ (entered << 4)) % 256;
+    ((register >> 8) ^ (spread << 3)) ^ ((spread << 8) | (spread >> 4))
 }

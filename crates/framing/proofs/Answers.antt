@@ -2,8 +2,7 @@
 use mathlib.Core.Path.{_≡_, refl}
 use mathlib.Core.Bool.{cond}
 use lib.Dec.{eqb}
-use lib.ListN.{getD}
-use Rattle.checks.specs.Numbers.{Answer, done}
+use Rattle.checks.specs.Numbers.{Answer, done, valueOf}
 use Rattle.checks.proofs.Numbers.{tells}
 use Rattle.framing.specs.declared.frame.Written.{Written}
 use Rattle.framing.specs.declared.frame.Written.the-variants.{Done, BadLength, ShortOutput}
@@ -12,7 +11,7 @@ use Rattle.framing.specs.Writer.{writtenAnswer}
 
 -- the result, back from its answer
 abbrev back : Answer → Written
-back a = cond (eqb (a .number) done) (Done (getD (a .values) 0 0)) (cond (eqb (a .number) badLength) BadLength ShortOutput)
+back a = cond (eqb (a .number) done) (Done (valueOf a)) (cond (eqb (a .number) badLength) BadLength ShortOutput)
 
 there-and-back : (x : Written) → back (writtenAnswer x) ≡ x
 there-and-back (Done n) = refl

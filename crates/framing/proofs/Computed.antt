@@ -1,13 +1,26 @@
 -- What these frames are is computed from the definitions. It rests on no law, so that an error in a definition shows here and not in the words of a
 -- proof that no longer fits. Assumes nothing.
 use Prim.Native.Nat.{ℕ}
-use mathlib.Core.Path.{ap}
+use mathlib.Core.Path.{ap, refl}
 use mathlib.Core.List.{List}
 use native.Mathlib.Omega.{arith}
 use lib.ListN.{getD}
-use Rattle.framing.specs.Computed.{SomethingWritten}
-use Rattle.framing.specs.Frame.{frame}
+use Rattle.checks.specs.Register.{bitStep, bitSteps, byteStep, checkFrom}
+use Rattle.framing.specs.Computed.{CaseAFrame, FlagAsCheck, FlagAsCount, SomethingWritten}
+use Rattle.framing.specs.Frame.{escaped, escapedAll, frame}
 use Rattle.framing.specs.Writer.{outputOf}
+
+pub case-a-frame : CaseAFrame
+unfolding frame escapedAll escaped checkFrom byteStep bitSteps bitStep
+case-a-frame = refl
+
+pub flag-as-check : FlagAsCheck
+unfolding frame escapedAll escaped checkFrom byteStep bitSteps bitStep
+flag-as-check = refl
+
+pub flag-as-count : FlagAsCount
+unfolding frame escapedAll escaped checkFrom byteStep bitSteps bitStep
+flag-as-count = refl
 
 pub something-written : SomethingWritten
 unfolding outputOf frame

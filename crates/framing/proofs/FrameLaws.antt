@@ -13,7 +13,7 @@ use Rattle.checks.specs.Laws.{Bytes}
 use Rattle.checks.specs.FrameCheck.{frameCheck, frameRegister}
 use Rattle.checks.proofs.FrameCheck.{frame-below}
 use Rattle.checks.proofs.Bytes.{bytes-none, bytes-cons, bytes-append, bytes-each}
-use Rattle.framing.specs.Frame.{flag, escape, flagEscaped, escapeEscaped, revision, escaped, escapedAll, escapes, covered, checkBytes, behindFlag, frame, frames, Sendable, AllSendable}
+use Rattle.framing.specs.Frame.{flag, escape, flagEscaped, escapeEscaped, revision, escaped, escapedAll, escapes, escapesOf, covered, checkBytes, behindFlag, frame, frames, packetMost, Sendable, AllSendable}
 use Rattle.framing.specs.FrameLaws.{FrameLength, FrameMost, FrameBytes, SameFrame, SameBehindFlag}
 
 pub escaped-all-append : (xs ys : List ℕ) → escapedAll (xs ++ ys) ≡ escapedAll xs ++ escapedAll ys
@@ -25,7 +25,7 @@ escaped-all-append (b ∷ xs) ys =
 -- ---- length
 
 -- a byte takes one place, and one more where it is escaped
-escaped-length : (b : ℕ) → length (escaped b) ≡ 1 + cond (eqb b flag || eqb b escape) 1 0
+escaped-length : (b : ℕ) → length (escaped b) ≡ 1 + escapesOf b
 unfolding escaped
 escaped-length b = go (eqb b flag) (eqb b escape)
   where
@@ -35,7 +35,7 @@ escaped-length b = go (eqb b flag) (eqb b escape)
     go false true = refl
     go false false = refl
 
-pub escaped-all-length : (packet : List ℕ) → length (escapedAll packet) ≡ length packet + escapes packet
+escaped-all-length : (packet : List ℕ) → length (escapedAll packet) ≡ length packet + escapes packet
 unfolding escapedAll escapes
 escaped-all-length [] = refl
 escaped-all-length (b ∷ bs) =
@@ -79,7 +79,7 @@ escaped-all-bytes (b ∷ bs) h =
     bytes-append (escaped b) (escapedAll bs) (escaped-bytes b (h 0)) (escaped-all-bytes bs (λ (i : ℕ). h (suc i)))
 
 -- the check has 16 bits
-pub check-below : (packet : List ℕ) → Bytes packet → length packet ≤ 255 → frameCheck (covered packet) < 65536
+pub check-below : (packet : List ℕ) → Bytes packet → length packet ≤ packetMost → frameCheck (covered packet) < 65536
 check-below packet bytes most =
     frame-below (frameRegister .start) (covered packet) (omega arith)
     (bytes-cons revision (length packet ∷ packet) (omega arith) (bytes-cons (length packet) packet (omega arith) bytes))
@@ -103,33 +103,33 @@ frames-bytes (p ∷ ps) sent = bytes-append (frame p) (frames ps) (frame-bytes p
 -- ---- reading back
 
 -- the packet's byte that a line begins with, and the line behind it
-firstOf : List ℕ → ℕ
-firstOf line = cond (eqb (getD line 0 0) escape) (cond (eqb (getD line 1 0) flagEscaped) flag escape) (getD line 0 0)
+byteRead : List ℕ → ℕ
+byteRead line = cond (eqb (getD line 0 0) escape) (cond (eqb (getD line 1 0) flagEscaped) flag escape) (getD line 0 0)
 
-restOf : List ℕ → List ℕ
-restOf line = cond (eqb (getD line 0 0) escape) (drop 2 line) (drop 1 line)
+restRead : List ℕ → List ℕ
+restRead line = cond (eqb (getD line 0 0) escape) (drop 2 line) (drop 1 line)
 
 -- the first n of the packet's bytes
 readBack : ℕ → List ℕ → List ℕ
 readBack zero line = []
-readBack (suc n) line = firstOf line ∷ readBack n (restOf line)
+readBack (suc n) line = byteRead line ∷ readBack n (restRead line)
 
-read-first : (b : ℕ) (line : List ℕ) → firstOf (escaped b ++ line) ≡ b
-unfolding escaped firstOf
+read-first : (b : ℕ) (line : List ℕ) → byteRead (escaped b ++ line) ≡ b
+unfolding escaped byteRead
 read-first b line = go (eqb b flag) (eqb b escape) refl refl
   where
     go : (f e : Bool) → eqb b flag ≡ f → eqb b escape ≡ e
-        → firstOf (cond f (escape ∷ flagEscaped ∷ []) (cond e (escape ∷ escapeEscaped ∷ []) (b ∷ [])) ++ line) ≡ b
+        → byteRead (cond f (escape ∷ flagEscaped ∷ []) (cond e (escape ∷ escapeEscaped ∷ []) (b ∷ [])) ++ line) ≡ b
     go true e p q = sym (eqb-true b flag p)
     go false true p q = sym (eqb-true b escape q)
     go false false p q = simp q
 
-read-rest : (b : ℕ) (line : List ℕ) → restOf (escaped b ++ line) ≡ line
-unfolding escaped restOf
+read-rest : (b : ℕ) (line : List ℕ) → restRead (escaped b ++ line) ≡ line
+unfolding escaped restRead
 read-rest b line = go (eqb b flag) (eqb b escape) refl
   where
     go : (f e : Bool) → eqb b escape ≡ e
-        → restOf (cond f (escape ∷ flagEscaped ∷ []) (cond e (escape ∷ escapeEscaped ∷ []) (b ∷ [])) ++ line) ≡ line
+        → restRead (cond f (escape ∷ flagEscaped ∷ []) (cond e (escape ∷ escapeEscaped ∷ []) (b ∷ [])) ++ line) ≡ line
     go true e q = refl
     go false true q = refl
     go false false q = simp q
@@ -140,7 +140,7 @@ unfolding escapedAll readBack
 read-back [] line = refl
 read-back (b ∷ bs) line =
     let rest = escapedAll bs ++ line in
-    ap (λ (whole : List ℕ). firstOf whole ∷ readBack (length bs) (restOf whole)) (append-assoc (escaped b) (escapedAll bs) line)
+    ap (λ (whole : List ℕ). byteRead whole ∷ readBack (length bs) (restRead whole)) (append-assoc (escaped b) (escapedAll bs) line)
     ∙ ap₂ (λ (first : ℕ) (behind : List ℕ). first ∷ readBack (length bs) behind) (read-first b rest) (read-rest b rest)
     ∙ ap (λ (packet : List ℕ). b ∷ packet) (read-back bs line)
 

@@ -1,16 +1,34 @@
--- What is computed from the definitions: frames written out, and what a writer leaves. An error in a definition breaks these first. The proofs:
--- `proofs/Computed.antt`. Assumes nothing.
+-- What is computed from the definitions: frames written out byte by byte, and what a writer leaves. An error in a definition breaks these first. The
+-- proofs: `proofs/Computed.antt`. Assumes nothing.
 use Prim.Native.Nat.{ℕ}
 use mathlib.Core.Path.{_≡_}
-use mathlib.Core.List.{List, [], _∷_}
+use mathlib.Core.List.{List, [], _∷_, _++_}
 use lib.ListN.{replicate}
 use Rattle.framing.specs.declared.frame.Written.the-variants.{Done}
-use Rattle.framing.specs.Frame.{flag}
+use Rattle.framing.specs.Frame.{flag, frame}
 use Rattle.framing.specs.Writer.{outputOf}
 
 -- a packet of five bytes that ends with b
 abbrev pub ending : ℕ → List ℕ
 ending b = 0x01 ∷ 0x0a ∷ 0x09 ∷ 0xc8 ∷ b ∷ []
+
+-- case A's frame, as document 01 prints it: the packet's flag is escaped
+abbrev pub CaseAFrame : Type 0
+CaseAFrame =
+    frame (ending flag)
+    ≡ 0x7e ∷ 0x01 ∷ 0x05 ∷ 0x01 ∷ 0x0a ∷ 0x09 ∷ 0xc8 ∷ 0x7d ∷ 0x5e ∷ 0x2d ∷ 0xba ∷ 0x7e ∷ []
+
+-- a flag as a check byte stands as it is: this packet's check is cd7e
+abbrev pub FlagAsCheck : Type 0
+FlagAsCheck =
+    frame (0x00 ∷ 0x00 ∷ 0x00 ∷ 0x00 ∷ 0x74 ∷ [])
+    ≡ 0x7e ∷ 0x01 ∷ 0x05 ∷ 0x00 ∷ 0x00 ∷ 0x00 ∷ 0x00 ∷ 0x74 ∷ 0xcd ∷ 0x7e ∷ 0x7e ∷ []
+
+-- a flag as the count stands as it is: a packet of 126 bytes, 01 and zeros, whose check is 2a37
+abbrev pub FlagAsCount : Type 0
+FlagAsCount =
+    frame (0x01 ∷ replicate 125 0x00)
+    ≡ 0x7e ∷ 0x01 ∷ 0x7e ∷ 0x01 ∷ (replicate 125 0x00 ++ (0x2a ∷ 0x37 ∷ 0x7e ∷ []))
 
 -- a writer that answers done and writes nothing does not meet its contract: twelve zeros are not case A's frame
 abbrev pub SomethingWritten : Type 0

@@ -56,15 +56,27 @@ unfoldable pub frames : List (List ℕ) → List ℕ
 frames [] = []
 frames (p ∷ ps) = frame p ++ frames ps
 
+-- 1 for a byte that is escaped, else 0
+abbrev pub escapesOf : ℕ → ℕ
+escapesOf b = cond (eqb b flag || eqb b escape) 1 0
+
 -- how many of the packet's bytes are escaped
 unfoldable pub escapes : List ℕ → ℕ
 escapes [] = 0
-escapes (b ∷ bs) = cond (eqb b flag || eqb b escape) 1 0 + escapes bs
+escapes (b ∷ bs) = escapesOf b + escapes bs
 
--- a packet that is sent: 5 to 255 bytes
+-- how many bytes a packet that is sent has at least, and at most
+abbrev pub packetLeast : ℕ
+packetLeast = 5
+
+abbrev pub packetMost : ℕ
+packetMost = 255
+
+-- a packet that is sent
 abbrev pub Sendable : List ℕ → Type 0
-Sendable packet = Bytes packet × (5 ≤ length packet) × (length packet ≤ 255)
+Sendable packet = Bytes packet × (packetLeast ≤ length packet) × (length packet ≤ packetMost)
 
+-- packets that are all sent
 abbrev pub AllSendable : List (List ℕ) → Type 0
 AllSendable [] = Unit {0}
 AllSendable (p ∷ ps) = Sendable p × AllSendable ps

@@ -1,20 +1,26 @@
 -- The frame writer: which packets it takes, what it answers (document 01, 'Numbers given back', with its order), and what it leaves in the output.
 -- Assumes nothing.
 use Prim.Native.Nat.{ℕ}
-use mathlib.Core.Bool.{Bool, cond, _&&_}
+use mathlib.Core.Path.{_≡_}
+use mathlib.Core.Bool.{Bool, true, cond, _&&_}
 use mathlib.Core.List.{List, [], _∷_}
 use lib.Dec.{leb}
 use lib.ListN.{length}
+use Rattle.checks.specs.Laws.{Bytes}
 use Rattle.checks.specs.Numbers.{Answer, answer, done, shortOutput}
 use Rattle.checks.specs.Output.{atStart}
 use Rattle.framing.specs.declared.frame.Written.{Written}
 use Rattle.framing.specs.declared.frame.Written.the-variants.{Done, BadLength, ShortOutput}
-use Rattle.framing.specs.Frame.{frame}
+use Rattle.framing.specs.Frame.{Sendable, frame, packetLeast, packetMost}
 use Rattle.framing.specs.Numbers.{badLength}
 
--- a packet of 5 to 255 bytes
+-- the writer's test: a packet of as many bytes as one that is sent has
 abbrev pub sendable : List ℕ → Bool
-sendable packet = leb 5 (length packet) && leb (length packet) 255
+sendable packet = leb packetLeast (length packet) && leb (length packet) packetMost
+
+-- it holds of a packet of bytes where that is one that is sent, and only there
+abbrev pub SendableTested : Type 0
+SendableTested = (packet : List ℕ) → Bytes packet → (Sendable packet → sendable packet ≡ true) × (sendable packet ≡ true → Sendable packet)
 
 -- the answer in document 01's numbers; the value is the frame's length
 abbrev pub writtenAnswer : Written → Answer

@@ -6,6 +6,7 @@ use mathlib.Core.List.{List, [], _∷_}
 use lib.Dec.{ltb}
 use lib.ListN.{length, take}
 use Rattle.checks.specs.Numbers.{Answer, answer, done, inconsistent, shortOutput}
+use Rattle.framing.specs.Frame.{packetMost}
 use Rattle.serial.specs.declared.receiver.Outcome.{Outcome}
 use Rattle.serial.specs.declared.receiver.Outcome.the-variants.{Nothing, Packet, Inconsistent}
 use Rattle.serial.specs.declared.receiver.Position.{Position}
@@ -55,5 +56,5 @@ firstLength (o ∷ os) = length (o .1) ∷ []
 abbrev pub takerAnswer : List ℕ → ℕ → ℕ → Receiver → Answer
 takerAnswer input allowance room s =
     cond (consistentOf s)
-    (cond (ltb room 255) (answer shortOutput []) (answer done (firstLength (outsOf 0 s (take allowance input)))))
+    (cond (ltb room packetMost) (answer shortOutput []) (answer done (firstLength (outsOf 0 s (take allowance input)))))
     (answer inconsistent [])

@@ -8,12 +8,12 @@ use Rattle.checks.specs.Laws.{Bytes}
 use Rattle.checks.specs.Numbers.{done}
 use Rattle.serial.specs.declared.receiver.Receiver.{Receiver}
 use Rattle.serial.specs.Answers.{outcomeAnswer}
-use Rattle.serial.specs.Receiver.{consistentOf, freshOf, stepOf}
+use Rattle.serial.specs.Receiver.{consistentOf, freshOf, stepOf, storedSize}
 use Rattle.serial.specs.Run.{runOf}
 
 -- a state of the code's type, which has 259 stored bytes, and consistent
 pub record Consistent (s : Receiver) : Type 0 where
-  pub sized : length (s .stored) ≡ 259
+  pub sized : length (s .stored) ≡ storedSize
   pub fits : consistentOf s ≡ true
 
 -- a step keeps a state consistent

@@ -3,6 +3,7 @@
 use Prim.Native.Nat.{ℕ, _≤_}
 use mathlib.Core.Path.{_≡_}
 use mathlib.Core.List.{List}
+use Rattle.framing.specs.Frame.{packetMost}
 use Rattle.serial.specs.declared.receiver.Outcome.{Outcome}
 use Rattle.serial.specs.declared.receiver.Outcome.the-variants.{Nothing, Packet}
 use Rattle.serial.specs.declared.receiver.Receiver.{Receiver}
@@ -57,6 +58,6 @@ heldTaken t stored = record { reason = reasonOf (t .cause); taken = t .taken; st
 
 -- a packet that is taken has at most 255 bytes
 abbrev pub Bounded : Cause → Type 0
-Bounded (PacketEnds n) = n ≤ 255
+Bounded (PacketEnds n) = n ≤ packetMost
 Bounded InputEnded = Unit {0}
 Bounded AllowanceSpent = Unit {0}

@@ -11,7 +11,7 @@ use Rattle.serial.specs.declared.receiver.Position.the-variants.{FrameSe
 use Rattle.serial.specs.declared.receiver.Receiver.{Receiver}
 use Rattle.serial.specs.declared.receiver.Outcome.the-variants.{Nothing, Packet, Inconsistent}
 use Rattle.serial.specs.declared.receiver.Stepped.{Stepped}
-use Rattle.framing.specs.Frame.{flag, escape, flagEscaped, escapeEscaped, revision}
+use Rattle.framing.specs.Frame.{escape, escapeEscaped, flag, flagEscaped, packetMost, revision}
 
 -- ---- positions
 
@@ -142,7 +142,7 @@ fitsAt Check s = counted s && (eqb (s .len) (s .count + 2) || eqb (s .len) (s .c
 fitsAt FrameEnd s = counted s && eqb (s .len) (s .count + 4)
 
 unfoldable pub consistentOf : Receiver → Bool
-consistentOf s = leb (s .len) storedSize && (leb (s .count) 255 && fitsAt (s .position) s)
+consistentOf s = leb (s .len) storedSize && (leb (s .count) packetMost && fitsAt (s .position) s)
 
 -- ---- a step: by the table where the state is consistent; else number 9 and a fresh state, whatever the byte
 

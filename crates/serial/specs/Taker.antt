@@ -4,6 +4,7 @@ use mathlib.Core.Bool.{cond}
 use mathlib.Core.List.{List, [], _∷_}
 use lib.Dec.{ltb}
 use Rattle.checks.specs.Output.{atStart}
+use Rattle.framing.specs.Frame.{packetMost}
 use Rattle.serial.specs.declared.receiver.Receiver.{Receiver}
 use Rattle.serial.specs.declared.receiver.Outcome.{Outcome}
 use Rattle.serial.specs.declared.receiver.Outcome.the-variants.{Nothing, Packet, Inconsistent}
@@ -33,7 +34,7 @@ takeFrom (b ∷ bs) (suc allowance) s n =
 -- with an output of `room` bytes: the state is tested before the room
 unfoldable pub takenOf : List ℕ → ℕ → ℕ → Receiver → Taken
 takenOf input allowance room s =
-    cond (consistentOf s) (cond (ltb room 255) (stop ShortOutput 0 s) (takeFrom input allowance s 0))
+    cond (consistentOf s) (cond (ltb room packetMost) (stop ShortOutput 0 s) (takeFrom input allowance s 0))
     (stop InconsistentTaken 0 freshOf)
 
 -- the output after it: a packet at its start

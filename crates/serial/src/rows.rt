@@ -6,6 +6,7 @@ ghost use mathlib.Core.List.{List};
 ghost use Prim.Native.Nat.{ℕ, _+_, _*_, _<_, _≤_};
 ghost use lib.ListN.{length, take};
 ghost use Rattle.checks.specs.Numbers.{answer, done};
+ghost use Rattle.framing.specs.Frame.{packetMost};
 ghost use Rattle.serial.specs.Answers.{firstLength, reasonAnswer};
 ghost use Rattle.serial.specs.Receiver.{agreesOf, atFrameEnd, byteCountRow, changed, checkRow, consistentOf, dataEscapedRow, dataRow, frameSearchRow, moveTo, serialRevisionRow, stepOf, storeData, storeUntil, storedSize};
 ghost use Rattle.serial.specs.Core.{Bounded, Leads, held, heldStep, heldTaken, reasonOf};
@@ -69,7 +70,7 @@ impl Head {
         full: Position,
         short: Position,
     ) -> Head
-        requires { ⌜ (self .len < length (now stored)) × (self .len < storedSize) × (self .count ≤ 255) × (more ≤ 4) ⌝ }
+        requires { ⌜ (self .len < length (now stored)) × (self .len < storedSize) × (self .count ≤ packetMost) × (more ≤ 4) ⌝ }
         ensures { λ r. ⌜ held r (now (stored .exit)) ≡ storeUntil more full short b (held self (now (stored .entry))) ⌝ }
     {
         let count = self.count;
@@ -84,7 +85,7 @@ impl Head {
 
     // A packet's byte is stored; Check once the count is reached.
     fn store_data(self, stored: &mut [u8], b: u8) -> Head
-        requires { ⌜ (self .len < length (now stored)) × (self .len < storedSize) × (self .count ≤ 255) ⌝ }
+        requires { ⌜ (self .len < length (now stored)) × (self .len < storedSize) × (self .count ≤ packetMost) ⌝ }
         ensures { λ r. ⌜ held r (now (stored .exit)) ≡ storeData b (held self (now (stored .entry))) ⌝ }
     {
         self.store_until(stored, b, 2, Position::Check, Position::Data)
@@ -92,7 +93,7 @@ impl Head {
 
     // Whether the two stored check bytes are the check of what is stored before them.
     fn agrees(self, stored: &[u8]) -> bool
-        requires { ⌜ (self .count + 4 ≤ length (now stored)) × (self .count ≤ 255) ⌝ }
+        requires { ⌜ (self .count + 4 ≤ length (now stored)) × (self .count ≤ packetMost) ⌝ }
         ensures { λ r. ⌜ r ≡ agreesOf (held self (now (stored .entry))) ⌝ }
     {
         let n = self.count + 2;
@@ -141,7 +142,7 @@ impl Head {
 
     // A flag opens the next frame, an escape leads to DataEscaped, any other byte is stored.
     fn data(self, stored: &mut [u8], b: u8) -> Head
-        requires { ⌜ (self .len < length (now stored)) × (self .len < storedSize) × (self .count ≤ 255) ⌝ }
+        requires { ⌜ (self .len < length (now stored)) × (self .len < storedSize) × (self .count ≤ packetMost) ⌝ }
         ensures { λ r. ⌜ held r (now (stored .exit)) ≡ dataRow b (held self (now (stored .entry))) ⌝ }
     {
         if b == FRAMING_FLAG {
@@ -155,7 +156,7 @@ impl Head {
 
     // The two escaped bytes are stored as what they stand for; any other byte, also a flag, leads to FrameSearch.
     fn data_escaped(self, stored: &mut [u8], b: u8) -> Head
-        requires { ⌜ (self .len < length (now stored)) × (self .len < storedSize) × (self .count ≤ 255) ⌝ }
+        requires { ⌜ (self .len < length (now stored)) × (self .len < storedSize) × (self .count ≤ packetMost) ⌝ }
         ensures { λ r. ⌜ held r (now (stored .exit)) ≡ dataEscapedRow b (held self (now (stored .entry))) ⌝ }
     {
         if b == FLAG_ESCAPED {
@@ -169,7 +170,7 @@ impl Head {
 
     // Any byte is a check byte; FrameEnd behind the second.
     fn check(self, stored: &mut [u8], b: u8) -> Head
-        requires { ⌜ (self .len < length (now stored)) × (self .len < storedSize) × (self .count ≤ 255) ⌝ }
+        requires { ⌜ (self .len < length (now stored)) × (self .len < storedSize) × (self .count ≤ packetMost) ⌝ }
         ensures { λ r. ⌜ held r (now (stored .exit)) ≡ checkRow b (held self (now (stored .entry))) ⌝ }
     {
         self.store_until(stored, b, 4, Position::FrameEnd, Position::Check)
@@ -177,7 +178,7 @@ impl Head {
 
     // A flag hands out the packet where the check agrees, and leads to FrameSearch; any other byte leads to SerialRevision.
     fn frame_end(self, stored: &[u8], b: u8) -> Moved
-        requires { ⌜ (self .count + 4 ≤ length (now stored)) × (self .count ≤ 255) ⌝ }
+        requires { ⌜ (self .count + 4 ≤ length (now stored)) × (self .count ≤ packetMost) ⌝ }
         ensures { λ r. ⌜ heldStep r (now (stored .entry)) ≡ atFrameEnd b (held self (now (stored .entry))) ⌝ }
     {
         if b == FRAMING_FLAG {

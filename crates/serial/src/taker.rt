@@ -3,6 +3,7 @@ ghost use mathlib.Core.Path.{_≡_};
 ghost use Prim.Native.Nat.{_≤_};
 ghost use lib.ListN.{length};
 ghost use Rattle.checks.specs.Numbers.{valueOf};
+ghost use Rattle.framing.specs.Frame.{packetMost};
 ghost use Rattle.serial.specs.Answers.{reasonAnswer};
 ghost use Rattle.serial.specs.Core.{Bounded, held, lastOf, reasonOf};
 ghost use Rattle.serial.specs.Receiver.{storedSize};
@@ -94,7 +95,7 @@ impl Cause {
 
     // A packet that was taken is copied from the stored bytes, where it begins at place 2, to the start of the output.
     pub(crate) fn copy_packet(self, stored: &[u8], out: &mut [u8])
-        requires { ⌜ Bounded self × (length (now stored) ≡ storedSize) × (255 ≤ length (now out)) ⌝ }
+        requires { ⌜ Bounded self × (length (now stored) ≡ storedSize) × (packetMost ≤ length (now out)) ⌝ }
         ensures { λ r. ⌜ ((head : Head) → now (out .exit) ≡ copiedOf (reasonOf self) (held head (now (stored .entry))) (now (out .entry))) ⌝ }
     {
         match self {

@@ -3,12 +3,14 @@
 use Prim.Native.Nat.{ℕ, _-_, _≤_}
 use mathlib.Core.Path.{_≡_, _∙_, refl, sym}
 use mathlib.Core.List.{List}
+use native.Mathlib.Nat.{lt-of-lt-of-le}
 use native.Mathlib.Omega.{arith}
 use lib.ListN.{length, drop, getD}
 use borrow.Author.Needs.{needs}
 use Rattle.checks.specs.FrameCheck.{frameRegister, frameCheckFrom}
 use Rattle.checks.proofs.Register.{check-end, check-next}
-use Rattle.checks.proofs.FrameCheck.{by-fetched-table, frame-fits}
+use Rattle.checks.proofs.FrameCheck.{frame-fits}
+use Rattle.checks.proofs.FrameStep.{by-table}
 use Rattle.checks.proofs.frame.frame_check_from.Statement.{statement}
 use Rattle.checks.proofs.frame.frame_check_from.Tie as tie
 
@@ -30,14 +32,23 @@ frame-table-requires c κs = search needs
 loop-holds : tie.Need-loop-holds Inv-loop μ-loop
 loop-holds c = (search needs, refl)
 
-slice-aggregate-frame-next : tie.Need-slice-aggregate-frame-next Inv-loop μ-loop
-slice-aggregate-frame-next c = search needs
+shared-slice-read-low : tie.Need-shared-slice-read-low Inv-loop μ-loop
+shared-slice-read-low c = omega arith
 
-shared-slice-read-frame-next : tie.Need-shared-slice-read-frame-next Inv-loop μ-loop
-shared-slice-read-frame-next c = omega arith
+cast-low : tie.Need-cast-low Inv-loop μ-loop
+cast-low c = record { fits = lt-of-lt-of-le (c .shared-slice-known2 .given _ .fits) (omega arith) }
 
-frame-next-requires : tie.Need-frame-next-requires Inv-loop μ-loop
-frame-next-requires c κs = search needs
+cast-low-2 : tie.Need-cast-low-2 Inv-loop μ-loop
+cast-low-2 c = search needs
+
+mul-reg : tie.Need-mul-reg Inv-loop μ-loop
+mul-reg c = search needs
+
+array-read-reg : tie.Need-array-read-reg Inv-loop μ-loop
+array-read-reg c = search needs
+
+cast-reg : tie.Need-cast-reg Inv-loop μ-loop
+cast-reg c = search needs
 
 add-i : tie.Need-add-i Inv-loop μ-loop
 add-i c = omega arith
@@ -47,12 +58,12 @@ loop-less c = omega arith
 
 loop-again : tie.Need-loop-again Inv-loop μ-loop
 loop-again c =
-    let l = c .before .before .before .before in
+    let l = c .before .before in
     let a = l .before .before .before .args in
     let b = getD (a .bytes .now) (l .loop .i) 0 in
-    let e = by-fetched-table _ (l .loop .reg) b (l .before .frame-table .ensures) (c .before .shared-slice-known2 .given (l .loop .i) .fits) in (
+    let e = by-table _ (l .loop .reg) b (l .before .frame-table .ensures) (c .shared-slice-known2 .given (l .loop .i) .fits) in (
       omega arith,
-      check-next frameRegister (a .bytes .now) (l .loop .reg) _ (l .loop .i) (omega arith) (c .frame-next .ensures ∙ e) ∙ l .loop .inv .1,
+      check-next frameRegister (a .bytes .now) (l .loop .reg) _ (l .loop .i) (omega arith) e ∙ l .loop .inv .1,
     )
 
 cast-result : tie.Need-cast-result Inv-loop μ-loop
@@ -76,9 +87,12 @@ frame-check-from-spec =
     μ-loop
     frame-table-requires
     loop-holds
-    slice-aggregate-frame-next
-    shared-slice-read-frame-next
-    frame-next-requires
+    shared-slice-read-low
+    cast-low
+    cast-low-2
+    mul-reg
+    array-read-reg
+    cast-reg
     add-i
     loop-less
     loop-again

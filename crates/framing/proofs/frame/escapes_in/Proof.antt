@@ -1,24 +1,21 @@
--- `serial::frame::escapes_in` meets its contract. The loop's invariant: what is counted and the escapes of what is left are the packet's.
+-- `framing::frame::escapes_in` meets its contract. The loop's invariant: what is counted and the escapes of what is left are the packet's.
 -- Assumes nothing.
 use Prim.Native.Nat.{ℕ, _+_, _-_, _≤_, _<_}
 use mathlib.Core.Path.{_≡_, ap}
-use mathlib.Core.Bool.{cond, _||_}
 use mathlib.Core.List.{List}
 use native.Mathlib.Nat.{zero-add}
 use native.Mathlib.Numerals.{add-one}
 use native.Mathlib.Omega.{arith}
-use lib.Dec.{eqb}
 use lib.ListN.{length, drop, getD, drop-of-length-le}
 use lib.Seq.{drop-cons}
 use borrow.Author.Needs.{needs}
-use Rattle.framing.specs.Frame.{flag, escape, escapes}
+use Rattle.framing.specs.Frame.{escapes, escapesOf}
 use Rattle.framing.proofs.FrameLaws.{escapes-most}
 use Rattle.framing.proofs.frame.escapes_in.Statement.{statement}
 use Rattle.framing.proofs.frame.escapes_in.Tie as tie
 
 escapes-next : (packet : List ℕ) (i : ℕ) → i < length packet
-    → escapes (drop i packet)
-    ≡ cond (eqb (getD packet i 0) flag || eqb (getD packet i 0) escape) 1 0 + escapes (drop (i + 1) packet)
+    → escapes (drop i packet) ≡ escapesOf (getD packet i 0) + escapes (drop (i + 1) packet)
 unfolding escapes
 escapes-next packet i h = rw (add-one, drop-cons packet i 0)
 
@@ -27,10 +24,10 @@ unfolding escapes
 escapes-end packet i h = ap escapes (drop-of-length-le packet {i = i} h)
 
 abbrev Inv-loop : tie.InvT-loop
-Inv-loop packet count₀ i₀ count i = (i ≤ length packet) × (count + escapes (drop i packet) ≡ escapes packet)
+Inv-loop packet found₀ i₀ found i = (i ≤ length packet) × (found + escapes (drop i packet) ≡ escapes packet)
 
 abbrev μ-loop : tie.MeasureT-loop
-μ-loop packet count₀ i₀ count i = length packet - i
+μ-loop packet found₀ i₀ found i = length packet - i
 
 loop-holds : tie.Need-loop-holds Inv-loop μ-loop
 loop-holds c = (search needs, zero-add _)
@@ -41,11 +38,11 @@ shared-slice-read-escapes-of c = omega arith
 escapes-of-requires : tie.Need-escapes-of-requires Inv-loop μ-loop
 escapes-of-requires c κs = search needs
 
-add-count : tie.Need-add-count Inv-loop μ-loop
-add-count c =
+add-found : tie.Need-add-found Inv-loop μ-loop
+add-found c =
     let l = c .before .before .before in
     let packet = l .before .before .args .packet .now in
-    let h : l .loop .count + c .escapes-of .result ≤ length packet =
+    let h : l .loop .found + c .escapes-of .result ≤ length packet =
     omega (
       arith,
       escapes-next packet (l .loop .i) (omega arith),
@@ -83,7 +80,7 @@ escapes-in-spec =
     loop-holds
     shared-slice-read-escapes-of
     escapes-of-requires
-    add-count
+    add-found
     add-i
     loop-less
     loop-again

@@ -1,4 +1,4 @@
--- `serial::frame::escapes_of` meets its contract: its tests are the definition's. Assumes nothing.
+-- `framing::frame::escapes_of` meets its contract: its tests are the definition's. Assumes nothing.
 use borrow.Author.Tests.{eq-eqb, ne-eqb}
 use Rattle.framing.proofs.frame.escapes_of.Statement.{statement}
 use Rattle.framing.proofs.frame.escapes_of.Tie as tie

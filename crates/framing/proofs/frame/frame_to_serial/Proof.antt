@@ -1,7 +1,8 @@
--- `serial::frame_to_serial` meets its contract: its tests are the definition's, in the definition's order, since the length that it computes
+-- `framing::frame_to_serial` meets its contract: its tests are the definition's, in the definition's order, since the length that it computes
 -- is the frame's. Assumes nothing.
 use Prim.Native.Nat.{ℕ, _≤_, _<_}
 use mathlib.Core.Path.{_≡_, ap, refl}
+use mathlib.Core.Bool.{true}
 use mathlib.Core.List.{List, [], _∷_}
 use native.Mathlib.Omega.{arith}
 use lib.ListN.{length}
@@ -9,33 +10,30 @@ use borrow.Author.Needs.{needs}
 use borrow.Author.Tests.{le-leb, lt-leb}
 use Rattle.checks.specs.Numbers.{answer, done, shortOutput}
 use Rattle.framing.specs.Numbers.{badLength}
-use Rattle.framing.specs.Writer.{writerAnswer}
-use Rattle.framing.specs.Frame.{frame}
-use Rattle.framing.specs.Writer.{outputOf}
+use Rattle.framing.specs.Frame.{frame, packetLeast, packetMost}
+use Rattle.framing.specs.Writer.{outputOf, sendable, writerAnswer}
 use Rattle.framing.proofs.FrameLaws.{escapes-most, frame-length}
+use Rattle.framing.proofs.Writer.{sendable-within}
 use Rattle.framing.proofs.frame.frame_to_serial.Statement.{statement}
 use Rattle.framing.proofs.frame.frame_to_serial.Tie as tie
 
-too-short : (packet : List ℕ) (room : ℕ) → length packet < 5 → answer badLength [] ≡ writerAnswer packet room
+too-short : (packet : List ℕ) (room : ℕ) → length packet < packetLeast → answer badLength [] ≡ writerAnswer packet room
 unfolding writerAnswer
-too-short packet room h = simp (lt-leb 5 (length packet) h)
+too-short packet room h = simp (lt-leb packetLeast (length packet) h)
 
-too-long : (packet : List ℕ) (room : ℕ) → 255 < length packet → answer badLength [] ≡ writerAnswer packet room
+too-long : (packet : List ℕ) (room : ℕ) → packetMost < length packet → answer badLength [] ≡ writerAnswer packet room
 unfolding writerAnswer
-too-long packet room h = simp (le-leb 5 (length packet) (omega arith), lt-leb (length packet) 255 h)
+too-long packet room h = simp (le-leb packetLeast (length packet) (omega arith), lt-leb (length packet) packetMost h)
 
-no-room : (packet : List ℕ) (room : ℕ) → 5 ≤ length packet → length packet ≤ 255 → room < length (frame packet)
-    → answer shortOutput [] ≡ writerAnswer packet room
+no-room : (packet : List ℕ) (room : ℕ) → sendable packet ≡ true → room < length (frame packet) → answer shortOutput [] ≡ writerAnswer packet room
 unfolding writerAnswer
-no-room packet room h k short =
-    simp (le-leb 5 (length packet) h, le-leb (length packet) 255 k, lt-leb (length (frame packet)) room short)
+no-room packet room h short = simp (h, lt-leb (length (frame packet)) room short)
 
-with-room : (packet : List ℕ) (room n : ℕ) → 5 ≤ length packet → length packet ≤ 255 → n ≡ length (frame packet) → n ≤ room
+with-room : (packet : List ℕ) (room n : ℕ) → sendable packet ≡ true → n ≡ length (frame packet) → n ≤ room
     → answer done (n ∷ []) ≡ writerAnswer packet room
 unfolding writerAnswer
-with-room packet room n h k e fits =
-    simp (le-leb 5 (length packet) h, le-leb (length packet) 255 k, le-leb (length (frame packet)) room (omega arith))
-    (ap (λ (m : ℕ). answer done (m ∷ [])) e)
+with-room packet room n h e fits =
+    simp (h, le-leb (length (frame packet)) room (omega arith)) (ap (λ (m : ℕ). answer done (m ∷ [])) e)
 
 returns : tie.Need-returns
 unfolding outputOf
@@ -61,8 +59,9 @@ add-len-2 c =
 returns-3 : tie.Need-returns-3
 unfolding outputOf
 returns-3 c =
-    let e = frame-length (c .before .before .before .before .before .before .args .packet .now) in
-    (no-room _ _ (omega arith) (omega arith) (omega arith), refl)
+    let packet = c .before .before .before .before .before .before .args .packet .now in
+    let e = frame-length packet in
+    (no-room packet _ (sendable-within packet (omega arith) (omega arith)) (omega arith), refl)
 
 write-frame-requires : tie.Need-write-frame-requires
 write-frame-requires c κs =
@@ -75,8 +74,9 @@ same-length c = search needs
 returns-4 : tie.Need-returns-4
 unfolding outputOf
 returns-4 c =
-    let e = frame-length (c .before .before .before .before .before .before .before .before .before .before .args .packet .now) in
-    (with-room _ _ _ (omega arith) (omega arith) (omega arith) (omega arith), c .before .before .write-frame .ensures)
+    let packet = c .before .before .before .before .before .before .before .before .before .before .args .packet .now in
+    let e = frame-length packet in
+    (with-room packet _ _ (sendable-within packet (omega arith) (omega arith)) (omega arith) (omega arith), c .before .before .write-frame .ensures)
 
 pub frame-to-serial-spec : {M : Type 1} → statement M
 frame-to-serial-spec =

@@ -1,4 +1,4 @@
--- `serial::frame::write_escaped` meets its contract. The loop's invariant: to write what is left of the packet, escaped, from the place on
+-- `framing::frame::write_escaped` meets its contract. The loop's invariant: to write what is left of the packet, escaped, from the place on
 -- makes the output that is promised, and the check of what is left, from the register on, is the check of the whole. A turn writes the first byte
 -- of what is left and is its byte step. Assumes nothing.
 use Prim.Native.Nat.{ℕ, _+_, _-_, _≤_}
@@ -10,7 +10,6 @@ use borrow.Author.Needs.{needs}
 use Rattle.checks.specs.FrameCheck.{frameCheckFrom, frameRegister}
 use Rattle.checks.specs.Output.{putAt}
 use Rattle.checks.proofs.Each.{each-end, each-room, each-turn}
-use Rattle.checks.proofs.FrameCheck.{by-fetched-table}
 use Rattle.checks.proofs.Output.{put-none, length-put}
 use Rattle.checks.proofs.Register.{check-end, check-next}
 use Rattle.framing.specs.Frame.{escaped, escapedAll}
@@ -27,7 +26,7 @@ unfolding escapedAll
 escaped-more b bs = refl
 
 abbrev Inv-loop : tie.InvT-loop
-Inv-loop packet table out₀ place₀ register₀ i₀ out place register i =
+Inv-loop packet out₀ place₀ register₀ i₀ out place register i =
     (i ≤ length packet)
     × (length out ≡ length out₀)
     × (place + length (escapedAll (drop i packet)) ≡ place₀ + length (escapedAll packet))
@@ -35,7 +34,7 @@ Inv-loop packet table out₀ place₀ register₀ i₀ out place register i =
     × (frameCheckFrom register (drop i packet) ≡ frameCheckFrom register₀ packet)
 
 abbrev μ-loop : tie.MeasureT-loop
-μ-loop packet table out₀ place₀ register₀ i₀ out place register i = length packet - i
+μ-loop packet out₀ place₀ register₀ i₀ out place register i = length packet - i
 
 loop-holds : tie.Need-loop-holds Inv-loop μ-loop
 loop-holds c = (search needs, refl, refl, refl, refl)
@@ -46,7 +45,7 @@ shared-slice-read-b c = omega arith
 write-byte-requires : tie.Need-write-byte-requires Inv-loop μ-loop
 write-byte-requires c κs =
     let l = c .before .before .before in
-    let packet = l .before .before .before .before .args .packet .now in
+    let packet = l .before .before .before .args .packet .now in
     omega (arith, each-room escaped escapedAll escaped-none escaped-more packet (l .loop .i) (omega arith), l .loop .inv)
 
 frame-next-requires : tie.Need-frame-next-requires Inv-loop μ-loop
@@ -62,13 +61,12 @@ loop-again : tie.Need-loop-again Inv-loop μ-loop
 loop-again c =
     let w = c .before .before .before in
     let l = w .before .before .before .before in
-    let a = l .before .before .before .before in
+    let a = l .before .before .before in
     let packet = a .args .packet .now in
     let b = getD packet (l .loop .i) 0 in
     let r = each-room escaped escapedAll escaped-none escaped-more packet (l .loop .i) (omega arith) in
     let e = w .write-byte .ensures in
-    let small = w .before .before .shared-slice-known3 .given (l .loop .i) .fits in
-    let next = c .frame-next .ensures ∙ by-fetched-table _ (l .loop .register) b (a .pre .0) small in (
+    let next = c .frame-next .ensures in (
       search needs,
       ap length (e .1) ∙ length-put (l .loop .place) (escaped b) (l .loop .out) (omega arith) ∙ l .loop .inv .1,
       omega arith,
@@ -82,7 +80,7 @@ same-length c = c .before .loop .inv .1
 returns : tie.Need-returns Inv-loop μ-loop
 returns c =
     let l = c .before in
-    let packet = l .before .before .before .before .args .packet .now in
+    let packet = l .before .before .before .args .packet .now in
     let e = each-end escaped escapedAll escaped-none escaped-more packet (l .loop .i) (omega arith) in
     let place = l .loop .place in
     let out = l .loop .out in

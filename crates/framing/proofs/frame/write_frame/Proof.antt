@@ -1,4 +1,4 @@
--- `serial::frame::write_frame` meets its contract: three writes, one right behind the other, are one write of all their bytes, and those are
+-- `framing::frame::write_frame` meets its contract: three writes, one right behind the other, are one write of all their bytes, and those are
 -- the frame; the check goes on over the packet from where the revision and the count left it, which is how the definition goes over a list.
 -- Assumes nothing.
 use Prim.Native.Nat.{ℕ, _+_, _/_, _%_, _≤_}
@@ -8,13 +8,12 @@ use native.Mathlib.Nat.{mod-eq-of-lt}
 use native.Mathlib.Omega.{arith}
 use lib.ListN.{length}
 use borrow.Author.Needs.{needs}
-use Rattle.checks.specs.FrameCheck.{frameCheck, frameCheckFrom, frameNext, frameRegister, frameTable}
+use Rattle.checks.specs.FrameCheck.{frameCheck, frameCheckFrom, frameRegister}
 use Rattle.checks.specs.Laws.{Bytes}
 use Rattle.checks.specs.Register.{byteStep, checkFrom}
 use Rattle.checks.specs.Output.{atStart, putAt}
-use Rattle.checks.proofs.FrameCheck.{by-fetched-table}
 use Rattle.checks.proofs.Output.{length-put, put-put}
-use Rattle.framing.specs.Frame.{flag, revision, escapedAll, covered, checkBytes, frame}
+use Rattle.framing.specs.Frame.{flag, revision, escapedAll, covered, checkBytes, frame, packetMost}
 use Rattle.framing.proofs.FrameLaws.{check-below, frame-room}
 use Rattle.framing.proofs.frame.write_frame.Statement.{statement}
 use Rattle.framing.proofs.frame.write_frame.Tie as tie
@@ -27,24 +26,21 @@ abbrev closing : List ℕ → List ℕ
 closing packet = checkBytes packet ++ (flag ∷ [])
 
 -- the latter, as the check's two low bytes
-closing-bytes : (packet : List ℕ) (check : ℕ) → Bytes packet → length packet ≤ 255 → check ≡ frameCheck (covered packet)
+closing-bytes : (packet : List ℕ) (check : ℕ) → Bytes packet → length packet ≤ packetMost → check ≡ frameCheck (covered packet)
     → check / 256 % 256 ∷ check % 256 ∷ flag ∷ [] ≡ closing packet
 closing-bytes packet check bytes most e =
     ap (λ (k : ℕ). k / 256 % 256 ∷ k % 256 ∷ flag ∷ []) e
     ∙ ap (λ (high : ℕ). high ∷ frameCheck (covered packet) % 256 ∷ flag ∷ []) (mod-eq-of-lt (omega (arith, check-below packet bytes most)))
 
--- the check of the revision, the count and the packet, one after the other by the table
-check-covered : (packet table : List ℕ) (revised counted check : ℕ) → length packet ≤ 255 → table ≡ frameTable
-    → revised ≡ frameNext table (frameRegister .start) revision → counted ≡ frameNext table revised (length packet)
+-- the check of the revision, the count and the packet, one after the other
+check-covered : (packet : List ℕ) (revised counted check : ℕ)
+    → revised ≡ byteStep frameRegister (frameRegister .start) revision → counted ≡ byteStep frameRegister revised (length packet)
     → check ≡ frameCheckFrom counted packet → check ≡ frameCheck (covered packet)
 unfolding checkFrom
-check-covered packet table revised counted check h et er ec ek =
+check-covered packet revised counted check er ec ek =
     ek
     ∙ ap (λ (register : ℕ). frameCheckFrom register packet)
-    (ec
-    ∙ by-fetched-table table revised (length packet) et (omega arith)
-    ∙ ap (λ (register : ℕ). byteStep frameRegister register (length packet))
-    (er ∙ by-fetched-table table (frameRegister .start) revision et (omega arith)))
+    (ec ∙ ap (λ (register : ℕ). byteStep frameRegister register (length packet)) er)
 
 -- the output after each write keeps its length
 opened-length : (packet out opened : List ℕ) → length (frame packet) ≤ length out
@@ -75,14 +71,8 @@ all-written packet out opened filled closed last end room eo ee ef el ec =
     ∙ ap₂ (λ (n : ℕ) (xs : List ℕ). putAt n (closing packet) xs) place both
     ∙ put-put 0 (opening packet ++ sent) (closing packet) out (omega (arith, frame-room packet))
 
-frame-table-requires : tie.Need-frame-table-requires
-frame-table-requires c κs = search needs
-
 cast-count : tie.Need-cast-count
 cast-count c = search needs
-
-slice-aggregate-frame-next : tie.Need-slice-aggregate-frame-next
-slice-aggregate-frame-next c = search needs
 
 cast-frame-next : tie.Need-cast-frame-next
 cast-frame-next c = search needs
@@ -90,27 +80,18 @@ cast-frame-next c = search needs
 frame-next-requires : tie.Need-frame-next-requires
 frame-next-requires c κs = search needs
 
-slice-aggregate-frame-next-2 : tie.Need-slice-aggregate-frame-next-2
-slice-aggregate-frame-next-2 c = search needs
-
 frame-next-requires-2 : tie.Need-frame-next-requires-2
 frame-next-requires-2 c κs = search needs
 
 write-three-requires : tie.Need-write-three-requires
-write-three-requires c κs = omega (arith, frame-room (c .before .before .before .before .before .before .before .before .args .packet .now))
-
-slice-aggregate-write-escaped : tie.Need-slice-aggregate-write-escaped
-slice-aggregate-write-escaped c = search needs
+write-three-requires c κs = omega (arith, frame-room (c .before .before .before .before .before .args .packet .now))
 
 write-escaped-requires : tie.Need-write-escaped-requires
 write-escaped-requires c κs =
-    let w = c .before .before .before .before in
-    let f = w .before .before .before .before .before .before in
-    let a = f .before .before .before in
-    let packet = a .args .packet .now in (
-      f .frame-table .ensures,
-      omega (arith, frame-room packet, opened-length packet (a .args .out .now) _ (a .pre .1) (w .write-three .ensures)),
-    )
+    let w = c .before .before .before in
+    let a = w .before .before .before .before .before .before in
+    let packet = a .args .packet .now in
+    omega (arith, frame-room packet, opened-length packet (a .args .out .now) _ (a .pre .1) (w .write-three .ensures))
 
 cast-high : tie.Need-cast-high
 cast-high c = search needs
@@ -121,8 +102,8 @@ cast-low c = search needs
 write-three-requires-2 : tie.Need-write-three-requires-2
 write-three-requires-2 c κs =
     let e = c .before .before .before in
-    let w = e .before .before .before .before .before in
-    let a = w .before .before .before .before .before .before .before .before .before in
+    let w = e .before .before .before .before in
+    let a = w .before .before .before .before .before .before in
     omega (
       arith,
       a .pre .1,
@@ -138,17 +119,13 @@ returns : tie.Need-returns
 returns c =
     let t = c .before .before in
     let e = t .before .before .before .before in
-    let w = e .before .before .before .before .before in
+    let w = e .before .before .before .before in
     let n = w .before .before in
-    let m = n .before .before in
-    let f = m .before .before in
-    let a = f .before .before .before in
+    let m = n .before in
+    let a = m .before .before .before in
     let packet = a .args .packet .now in
-    let check =
-    check-covered packet _ _ _ _ (a .pre .0) (f .frame-table .ensures) (m .frame-next .ensures) (n .frame-next2 .ensures)
-    (e .write-escaped .ensures .1 .0)
-    in
-    let last = closing-bytes packet _ (λ i. f .before .before .shared-slice-known .given i .fits) (a .pre .0) check in
+    let check = check-covered packet _ _ _ (m .frame-next .ensures) (n .frame-next2 .ensures) (e .write-escaped .ensures .1 .0) in
+    let last = closing-bytes packet _ (λ i. m .before .before .shared-slice-known .given i .fits) (a .pre .0) check in
     all-written packet (a .args .out .now) _ _ _ _ _ (a .pre .1) (w .write-three .ensures) (e .write-escaped .ensures .0)
     (e .write-escaped .ensures .1 .1) last (t .write-three2 .ensures)
 
@@ -156,15 +133,11 @@ pub write-frame-spec : {M : Type 1} → statement M
 write-frame-spec =
     tie.close
     (tie.spec
-    frame-table-requires
     cast-count
-    slice-aggregate-frame-next
     cast-frame-next
     frame-next-requires
-    slice-aggregate-frame-next-2
     frame-next-requires-2
     write-three-requires
-    slice-aggregate-write-escaped
     write-escaped-requires
     cast-high
     cast-low

@@ -1,4 +1,4 @@
--- `serial::frame::write_three` meets its contract: three stores, one behind the other. Assumes nothing.
+-- `framing::frame::write_three` meets its contract: three stores, one behind the other. Assumes nothing.
 use native.Mathlib.Omega.{arith}
 use lib.ListN.{length-set}
 use borrow.Author.Needs.{needs}
