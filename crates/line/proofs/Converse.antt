@@ -24,11 +24,12 @@ use Rattle.framing.specs.Computed.{ending}
 use Rattle.framing.specs.Frame.{flag, revision, escapedAll, covered, checkBytes, behindFlag, escaped, frame}
 use Rattle.serial.specs.Receiver.{agreesOf, freshOf, handsOut, rowOf, stepOf, consistentOf, fitsAt}
 use Rattle.serial.specs.Run.{emit, outsBy, outsOf, packetIn, runBy, runOf}
-use Rattle.line.specs.Converse.{SentAs, OnlyAsSent, AllAsSent, StreamAsSent, FlagNotNeeded, flagless}
+use Rattle.line.specs.Converse.{AllAsSent, Each, OnlyAsSent, SentAs, StreamAsSent, FlagNotNeeded, flagless}
 use Rattle.framing.proofs.FrameLaws.{frame-bytes}
 use Rattle.serial.proofs.Consistent.{FitsAt, facts, row-of}
 use Rattle.serial.proofs.Keeps.{reachable-consistent}
 use Rattle.serial.proofs.Run.{run-append}
+use Rattle.line.proofs.Ending.{ending-sent}
 use Rattle.line.proofs.Trace.{Trace, TraceAt, Within, heard-more, row-traced, stored-length}
 
 -- two bytes and the number that they make
@@ -101,13 +102,13 @@ module _ (h : List ℕ) (s : Receiver) (high low : ℕ) (w : Within h s (high �
       }
 
 -- the same of the trace's check bytes, which are two
-closing-sent : (h : List ℕ) (b : ℕ) (s : Receiver) (checks : List ℕ) (w : Within h s checks checks) → Bytes h → length (w .packet) ≡ s .count → length checks ≡ 2
+flag-sent : (h : List ℕ) (b : ℕ) (s : Receiver) (checks : List ℕ) (w : Within h s checks checks) → Bytes h → length (w .packet) ≡ s .count → length checks ≡ 2
     → b ≡ flag → agreesOf s ≡ true → SentAs (h ++ (b ∷ [])) (packetIn (s .count) s)
-closing-sent h b s [] w bytes whole two e agrees = absurd (omega arith)
-closing-sent h b s (high ∷ []) w bytes whole two e agrees = absurd (omega arith)
-closing-sent h b s (high ∷ low ∷ []) w bytes whole two e agrees =
+flag-sent h b s [] w bytes whole two e agrees = absurd (omega arith)
+flag-sent h b s (high ∷ []) w bytes whole two e agrees = absurd (omega arith)
+flag-sent h b s (high ∷ low ∷ []) w bytes whole two e agrees =
     subst (SentAs (h ++ (b ∷ []))) (sym (packet-stored h s high low w whole)) (closed h s high low w whole b bytes e agrees)
-closing-sent h b s (high ∷ low ∷ c ∷ more) w bytes whole two e agrees = absurd (omega arith)
+flag-sent h b s (high ∷ low ∷ c ∷ more) w bytes whole two e agrees = absurd (omega arith)
 
 -- ---- a step that hands out a packet
 
@@ -131,7 +132,7 @@ row-sent h b n s bytes sized room FrameEnd fits t e =
     (handsOut b s) _ _
     (λ both e′. let same : s .count ≡ n = cc in
     subst (λ (k : ℕ). SentAs (h ++ (b ∷ [])) (packetIn k s)) same
-    (closing-sent h b s (t .checks) (t .within) bytes (t .whole) (omega (arith, stored-length s (t .within) (omega arith), t .whole, fits .1))
+    (flag-sent h b s (t .checks) (t .within) bytes (t .whole) (omega (arith, stored-length s (t .within) (omega arith), t .whole, fits .1))
     (eqb-true b flag (left (eqb b flag) (agreesOf s) both)) (right (eqb b flag) (agreesOf s) both)))
     (λ both e′. quiet-not n e′) e
 
@@ -171,12 +172,12 @@ only-as-sent h b n bytes e =
 
 -- ---- a whole stream
 
--- what a step at place i hands out, before what follows
-emit-sent : (stream : List ℕ) (o : Outcome) (s : Receiver) (i : ℕ) (outs : List (ℕ × List ℕ))
-    → ((n : ℕ) → o ≡ Packet n → SentAs (take (i + 1) stream) (packetIn n s)) → AllAsSent stream outs → AllAsSent stream (emit o s i outs)
-emit-sent stream Nothing s i outs sent all = all
-emit-sent stream (Packet n) s i outs sent all = (sent n refl, all)
-emit-sent stream Inconsistent s i outs sent all = all
+-- what holds of a packet that a step hands out at place i, and of each that follows, holds of each
+pub emit-each : (so : ℕ → List ℕ → Type 0) (o : Outcome) (s : Receiver) (i : ℕ) (outs : List (ℕ × List ℕ))
+    → ((n : ℕ) → o ≡ Packet n → so i (packetIn n s)) → Each so outs → Each so (emit o s i outs)
+emit-each so Nothing s i outs here all = all
+emit-each so (Packet n) s i outs here all = (here n refl, all)
+emit-each so Inconsistent s i outs here all = all
 
 -- behind the bytes h, each packet that the rest hands out is sent as it is
 sent-from : (rest h : List ℕ) → Bytes (h ++ rest) → AllAsSent (h ++ rest) (outsOf (length h) (runOf freshOf h) rest)
@@ -189,7 +190,7 @@ sent-from (b ∷ rest) h bytes =
     let place : take (length h + 1) stream ≡ h ++ (b ∷ []) = take-append-add h (b ∷ rest) 1 in
     let next : outsOf (length (h ++ (b ∷ []))) (runOf freshOf (h ++ (b ∷ []))) rest ≡ outsOf (length h + 1) (stepOf b s .state) rest =
     ap₂ (λ (i : ℕ) (r : Receiver). outsOf i r rest) (length-append h (b ∷ [])) (run-append freshOf h (b ∷ [])) in
-    emit-sent stream (stepOf b s .outcome) (stepOf b s .state) (length h) (outsOf (length h + 1) (stepOf b s .state) rest)
+    emit-each (λ place packet. SentAs (take (place + 1) stream) packet) (stepOf b s .outcome) (stepOf b s .state) (length h) (outsOf (length h + 1) (stepOf b s .state) rest)
     (λ n e. subst (λ (l : List ℕ). SentAs l (packetIn n (stepOf b s .state))) (sym place)
     (only-as-sent h b n (bytes-front h (b ∷ rest) bytes) e))
     (subst₂ AllAsSent joined next (sent-from rest (h ++ (b ∷ [])) (subst Bytes (sym joined) bytes)))
@@ -200,15 +201,12 @@ stream-as-sent stream bytes = sent-from stream [] bytes
 
 -- ---- without a flag before the revision
 
-ending-bytes : Bytes (ending 0x00)
-ending-bytes = bytes-each (ending 0x00) (omega arith, (omega arith, (omega arith, (omega arith, (omega arith, tt)))))
-
 flagless-bytes : Bytes flagless
 unfolding frame
 flagless-bytes =
     bytes-append (take 7 flagless) (behindFlag (ending 0x00))
-    (bytes-each (take 7 flagless) (omega arith, (omega arith, (omega arith, (omega arith, (omega arith, (omega arith, (omega arith, tt))))))))
-    (bytes-back (flag ∷ []) (behindFlag (ending 0x00)) (frame-bytes (ending 0x00) (ending-bytes, omega arith, omega arith)))
+    (bytes-each (take 7 flagless) (omega arith))
+    (bytes-back (flag ∷ []) (behindFlag (ending 0x00)) (frame-bytes (ending 0x00) (ending-sent 0x00 (omega arith))))
 
 flagless-heard : outsOf 0 freshOf flagless ≡ (16, ending 0x00) ∷ []
 unfolding outsBy stepOf consistentOf fitsAt rowOf agreesOf escapedAll escaped checkFrom byteStep bitSteps bitStep

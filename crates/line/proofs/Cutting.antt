@@ -1,7 +1,7 @@
 -- A stream in any cutting is one pass: each call's steps are those of a pass over the bytes that it took (`Steps` of `serial`), and a pass goes on
 -- where the last one ended. Assumes nothing.
 use Prim.Native.Nat.{ℕ, suc, _+_, _-_, _≤_}
-use mathlib.Core.Path.{_≡_, _∙_, ap, refl, sym}
+use mathlib.Core.Path.{_∙_, ap, refl, sym}
 use mathlib.Core.List.{List, [], _∷_, _++_, append-assoc, append-nil}
 use native.Mathlib.Omega.{arith}
 use lib.ListN.{length, drop, length-drop}
@@ -11,7 +11,7 @@ use Rattle.serial.specs.Consistency.{Consistent}
 use Rattle.serial.specs.Run.{outsBy, outsOf, runBy, runOf}
 use Rattle.serial.specs.Steps.{Call, called, handed}
 use Rattle.serial.proofs.Steps.{goes-on, kept, state-goes-on, takes-one}
-use Rattle.line.specs.Cutting.{AnyCutting, NothingLeft, WholeCutting, Willing, fedBy}
+use Rattle.line.specs.Cutting.{AnyCutting, NothingLeft, WholeCutting, Willing, fedBy, fedOf}
 
 pub any-cutting : AnyCutting
 unfolding fedBy
@@ -19,7 +19,7 @@ any-cutting [] i s stream fits h = record { packets = refl; state = refl }
 any-cutting (c ∷ cs) i s stream fits h =
     let t = called c s stream in
     let more = any-cutting cs (i + t .taken) (t .state) (drop (t .taken) stream) (kept c s stream fits h) (bytes-drop (t .taken) stream h) in
-    let f = fedBy cs (i + t .taken) (t .state) (drop (t .taken) stream) in
+    let f = fedOf cs (i + t .taken) (t .state) (drop (t .taken) stream) in
     let first = handed (t .reason) (t .state) (i + t .taken - 1) [] in
     record {
       packets = goes-on c s stream fits i ∙ ap (λ (outs : List (ℕ × List ℕ)). first ++ outs) (more .packets)
@@ -30,7 +30,7 @@ any-cutting (c ∷ cs) i s stream fits h =
 pub whole-cutting : WholeCutting
 unfolding outsBy runBy
 whole-cutting calls i s stream fits h e =
-    let f = fedBy calls i s stream in
+    let f = fedOf calls i s stream in
     let p = any-cutting calls i s stream fits h in
     (sym (p .packets ∙ ap (λ (rest : List ℕ). f .packets ++ outsOf (f .place) (f .state) rest) e ∙ append-nil (f .packets)), sym (p .state ∙ ap (runOf (f .state)) e))
 

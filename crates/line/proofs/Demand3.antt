@@ -2,7 +2,7 @@
 -- FrameEnd one. From there `proofs/FrameHeard.antt` has the frames, by the table, which is what a consistent state runs by. Two flags fail, as
 -- case N shows: both are taken for check bytes, and FrameEnd takes the frame's opening flag. Assumes nothing.
 use Prim.Native.Nat.{ℕ, zero, suc, _+_, _≤_}
-use mathlib.Core.Path.{_≡_, _∙_, refl, subst, sym}
+use mathlib.Core.Path.{_≡_, _∙_, ap, refl, subst, sym}
 use mathlib.Core.Bool.{Bool, cond}
 use mathlib.Core.Logic.{_≢_, inl, inr}
 use mathlib.Core.List.{List, [], _∷_, _++_}
@@ -20,14 +20,15 @@ use Rattle.serial.specs.declared.receiver.Position.the-variants.{FrameSearch, S
 use Rattle.serial.specs.declared.receiver.Receiver.{Receiver}
 use Rattle.serial.specs.declared.receiver.Stepped.{Stepped}
 use Rattle.framing.specs.Computed.{ending}
-use Rattle.line.specs.Lost.{cutShort}
-use Rattle.framing.specs.Frame.{flag, escaped, escapedAll, frame, frames}
-use Rattle.serial.specs.Receiver.{agreesOf, consistentOf, fitsAt, freshOf, rowOf, stepOf}
-use Rattle.serial.specs.Run.{outsBy, outsOf, runBy, runOf}
+use Rattle.line.specs.Lost.{losing}
+use Rattle.framing.specs.Frame.{Sendable, escaped, escapedAll, flag, frame, frames}
+use Rattle.serial.specs.Receiver.{agreesOf, changed, consistentOf, fitsAt, freshOf, moveTo, rowOf, stepOf}
+use Rattle.serial.specs.Run.{Step, outsBy, outsOf, runBy, runOf}
 use Rattle.serial.specs.Consistency.{Consistent}
-use Rattle.line.specs.Demand3.{placed, flags, Hears, Demand3, TwoFail, HearsFromAny, Demand3Whole, Open, HearsFromOpen}
+use Rattle.line.specs.Demand3.{Demand3, Demand3Whole, Hears, HearsAfterBy, HearsFromAny, HearsFromOpen, Open, TwoFail, flags, placed}
 use Rattle.serial.proofs.Consistent.{FitsAt, facts}
-use Rattle.line.proofs.FrameHeard.{stateOf, frames-give}
+use Rattle.line.proofs.Ending.{ending-sent}
+use Rattle.line.proofs.FrameHeard.{at-own, frames-give}
 use Rattle.framing.proofs.FrameLaws.{frames-bytes}
 use Rattle.serial.proofs.Keeps.{reachable-consistent, run-keeps}
 use Rattle.serial.proofs.Run.{outs-append, run-append}
@@ -39,48 +40,49 @@ use Rattle.serial.proofs.Table.{table-outs, table-run, tableRun}
 abbrev Opens : ℕ → Receiver → Type 0
 Opens k s = Open (tableRun s (flags k))
 
--- more flags do no harm, from where the next one opens a frame already
-from-revision : (k n l : ℕ) (xs : List ℕ) → Opens k (stateOf SerialRevision n l xs)
-unfolding tableRun rowOf
-from-revision zero n l xs = inr refl
-from-revision (suc k) n l xs = from-revision k 0 1 (set xs 0 flag)
+module _ (s : Receiver) where
+  -- more flags do no harm, from where the next one opens a frame already
+  from-revision : (k n l : ℕ) (xs : List ℕ) → Opens k (changed SerialRevision n l xs s)
+  unfolding tableRun rowOf
+  from-revision zero n l xs = inr refl
+  from-revision (suc k) n l xs = from-revision k 0 1 (set xs 0 flag)
 
-from-search : (k n l : ℕ) (xs : List ℕ) → Opens k (stateOf FrameSearch n l xs)
-unfolding tableRun rowOf
-from-search zero n l xs = inl refl
-from-search (suc k) n l xs = from-revision k n l xs
+  from-search : (k n l : ℕ) (xs : List ℕ) → Opens k (changed FrameSearch n l xs s)
+  unfolding tableRun rowOf
+  from-search zero n l xs = inl refl
+  from-search (suc k) n l xs = from-revision k n l xs
 
--- FrameEnd takes one flag, whether it hands out a packet on it or not
-from-end : (k n l : ℕ) (xs : List ℕ) → Opens (suc k) (stateOf FrameEnd n l xs)
-unfolding tableRun rowOf
-from-end k n l xs =
-    by-cond (λ (r : Stepped). Opens k (r .state)) (agreesOf (stateOf FrameEnd n l xs)) _ _
-    (λ e. from-search k n l xs) (λ e. from-search k n l xs)
+  -- FrameEnd takes one flag, whether it hands out a packet on it or not
+  from-end : (k n l : ℕ) (xs : List ℕ) → Opens (suc k) (changed FrameEnd n l xs s)
+  unfolding tableRun rowOf
+  from-end k n l xs =
+      by-cond (λ (r : Stepped). Opens k (r .state)) (agreesOf (changed FrameEnd n l xs s)) _ _
+      (λ e. from-search k n l xs) (λ e. from-search k n l xs)
 
--- Check takes as many as check bytes are missing, and then FrameEnd one
-from-last-check : (k n l : ℕ) (xs : List ℕ) → l + 1 ≡ n + 4 → Opens (suc (suc k)) (stateOf Check n l xs)
-unfolding tableRun rowOf
-from-last-check k n l xs last =
-    subst (λ (t : Bool). Opens (suc k) (stateOf (cond t FrameEnd Check) n (l + 1) (set xs l flag))) (sym (eq-eqb (l + 1) (n + 4) last))
-    (from-end k n (l + 1) (set xs l flag))
+  -- Check takes as many as check bytes are missing, and then FrameEnd one
+  from-last-check : (k n l : ℕ) (xs : List ℕ) → l + 1 ≡ n + 4 → Opens (suc (suc k)) (changed Check n l xs s)
+  unfolding tableRun rowOf
+  from-last-check k n l xs last =
+      subst (λ (t : Bool). Opens (suc k) (changed (cond t FrameEnd Check) n (l + 1) (set xs l flag) s)) (sym (eq-eqb (l + 1) (n + 4) last))
+      (from-end k n (l + 1) (set xs l flag))
 
-from-check : (k n l : ℕ) (xs : List ℕ) → n + 2 ≤ l → l ≤ n + 3 → Opens (suc (suc (suc k))) (stateOf Check n l xs)
-unfolding tableRun rowOf
-from-check k n l xs some most =
-    by-cond (λ (q : Position). Opens (suc (suc k)) (stateOf q n (l + 1) (set xs l flag))) (eqb (l + 1) (n + 4)) FrameEnd Check
-    (λ e. from-end (suc k) n (l + 1) (set xs l flag))
-    (λ e. let more : l + 1 ≢ n + 4 = eqb-false (l + 1) (n + 4) e in
-    from-last-check k n (l + 1) (set xs l flag) (omega arith))
+  from-check : (k n l : ℕ) (xs : List ℕ) → n + 2 ≤ l → l ≤ n + 3 → Opens (suc (suc (suc k))) (changed Check n l xs s)
+  unfolding tableRun rowOf
+  from-check k n l xs some most =
+      by-cond (λ (q : Position). Opens (suc (suc k)) (changed q n (l + 1) (set xs l flag) s)) (eqb (l + 1) (n + 4)) FrameEnd Check
+      (λ e. from-end (suc k) n (l + 1) (set xs l flag))
+      (λ e. let more : l + 1 ≢ n + 4 = eqb-false (l + 1) (n + 4) e in
+      from-last-check k n (l + 1) (set xs l flag) (omega arith))
 
-opens-at : (q : Position) (n l : ℕ) (xs : List ℕ) → FitsAt q n l xs → Opens 3 (stateOf q n l xs)
-unfolding tableRun rowOf
-opens-at FrameSearch n l xs f = from-search 3 n l xs
-opens-at SerialRevision n l xs f = from-revision 3 n l xs
-opens-at ByteCount n l xs f = from-revision 1 flag (l + 1) (set xs l flag)
-opens-at Data n l xs f = from-revision 2 n l xs
-opens-at DataEscaped n l xs f = from-search 2 n l xs
-opens-at Check n l xs f = from-check 0 n l xs (f .1 .0) (f .1 .1)
-opens-at FrameEnd n l xs f = from-end 2 n l xs
+  opens-at : (q : Position) → FitsAt q (s .count) (s .len) (s .stored) → Opens 3 (moveTo q s)
+  unfolding tableRun rowOf
+  opens-at FrameSearch f = from-search 3 (s .count) (s .len) (s .stored)
+  opens-at SerialRevision f = from-revision 3 (s .count) (s .len) (s .stored)
+  opens-at ByteCount f = from-revision 1 flag (s .len + 1) (set (s .stored) (s .len) flag)
+  opens-at Data f = from-revision 2 (s .count) (s .len) (s .stored)
+  opens-at DataEscaped f = from-search 2 (s .count) (s .len) (s .stored)
+  opens-at Check f = from-check 0 (s .count) (s .len) (s .stored) (f .1 .0) (f .1 .1)
+  opens-at FrameEnd f = from-end 2 (s .count) (s .len) (s .stored)
 
 flags-bytes : (k : ℕ) → Bytes (flags k)
 flags-bytes k = bytes-replicate k flag (omega arith)
@@ -88,7 +90,7 @@ flags-bytes k = bytes-replicate k flag (omega arith)
 flags-open : (s : Receiver) → Consistent s → Open (runOf s (flags 3))
 flags-open s c =
     subst Open (table-run s (flags 3) c (flags-bytes 3))
-    (opens-at (s .position) (s .count) (s .len) (s .stored) (facts s (c .fits) .here))
+    (subst (Opens 3) (at-own s (s .position) refl) (opens-at s (s .position) (facts s (c .fits) .here)))
 
 -- ---- the theorems
 
@@ -109,17 +111,18 @@ demand-3-whole h bytes ps sent =
 
 -- ---- two flags
 
--- case N's history, and case A's packet
-none-heard : outsOf 0 (runOf freshOf (cutShort ++ flags 2)) (frames (ending flag ∷ [])) ≡ []
+-- a packet that is sent after a history and n flags, and not heard
+pub not-heard : (step : Step) (h : List ℕ) (n : ℕ) (p : List ℕ) → Bytes h → Sendable p
+    → outsBy step 0 (runBy step freshOf (h ++ flags n)) (frames (p ∷ [])) ≡ [] → HearsAfterBy step placed n → ⊥
+unfolding placed
+not-heard step h n p bytes sent silent all =
+    let wrong : _≡_ {A = ℕ} 0 1 = ap length (sym silent ∙ all h bytes 0 (p ∷ []) (sent, tt)) in
+    omega arith
+
+-- case A's packet behind case N's losing history
+none-heard : outsOf 0 (runOf freshOf (losing ++ flags 2)) (frames (ending flag ∷ [])) ≡ []
 unfolding outsBy runBy stepOf consistentOf fitsAt rowOf agreesOf frames frame escapedAll escaped checkFrom byteStep bitSteps bitStep
 none-heard = refl
 
-one-placed : length (placed 0 (ending flag ∷ [])) ≡ 1
-unfolding placed
-one-placed = refl
-
 pub two-fail : TwoFail
-two-fail all =
-    let heard = all cutShort (bytes-each cutShort (omega arith)) 0 (ending flag ∷ []) ((bytes-each (ending flag) (omega arith), omega arith, omega arith), tt) in
-    let wrong : _≡_ {A = ℕ} 0 1 = cc (heard, none-heard, one-placed) in
-    omega arith
+two-fail = not-heard stepOf losing 2 (ending flag) (bytes-each losing (omega arith)) (ending-sent flag (omega arith)) none-heard

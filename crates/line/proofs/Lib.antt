@@ -1,7 +1,9 @@
 pub mod Computed
+pub mod Ending
 pub mod FrameHeard
 pub mod Demand3
 pub mod Lost
 pub mod Trace
 pub mod Converse
 pub mod Cutting
+pub mod Wrong

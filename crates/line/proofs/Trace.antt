@@ -8,7 +8,7 @@ use mathlib.Core.List.{List, [], _∷_, _++_, append-assoc, append-nil}
 use native.Mathlib.Numerals.{add-one}
 use native.Mathlib.Omega.{arith}
 use lib.Dec.{eqb}
-use lib.ListN.{length, set, take, length-append, length-set}
+use lib.ListN.{length, take, length-append, length-set}
 use lib.Seq.{length-take-le, take-suc-set}
 use borrow.Author.Tests.{eqb-true}
 use Rattle.checks.proofs.Choice.{by-cond}
@@ -17,7 +17,7 @@ use Rattle.serial.specs.declared.receiver.Position.the-variants.{FrameSearch, S
 use Rattle.serial.specs.declared.receiver.Receiver.{Receiver}
 use Rattle.serial.specs.declared.receiver.Stepped.{Stepped}
 use Rattle.framing.specs.Frame.{flag, escape, flagEscaped, escapeEscaped, revision, escaped, escapedAll}
-use Rattle.serial.specs.Receiver.{byteCountRow, frameEndRow, freshOf, handsOut, moveTo, rowOf, serialRevisionRow, store, storeData}
+use Rattle.serial.specs.Receiver.{begun, byteCountRow, frameEndRow, freshOf, handsOut, moveTo, rowOf, serialRevisionRow, store, storeData, withCount}
 use Rattle.serial.specs.Run.{runOf}
 use Rattle.line.specs.Converse.{Opened}
 use Rattle.serial.proofs.Consistent.{FitsAt}
@@ -114,7 +114,7 @@ module _ (h : List ℕ) (b : ℕ) (s : Receiver) where
 
   -- b is read and c is stored for it
   read-stored : (p : Position) (n c : ℕ) (line kept : List ℕ) → s .len < length (s .stored) → Read h s line kept
-      → Read fed (record { position = p; count = n; len = s .len + 1; stored = set (s .stored) (s .len) c }) (line ++ (b ∷ [])) (kept ++ (c ∷ []))
+      → Read fed (moveTo p (withCount n (store c s))) (line ++ (b ∷ [])) (kept ++ (c ∷ []))
   read-stored p n c line kept room r =
       record {
         before = r .before;
@@ -183,7 +183,7 @@ module _ (h : List ℕ) (b : ℕ) (s : Receiver) where
   module _ (sized : length (s .stored) ≡ 259) (few : s .count ≤ 255) where
     revision-traced : Opened h → Trace fed (serialRevisionRow b s)
     revision-traced o =
-        by-cond (λ (p : Position). Trace fed (record { position = p; count = 0; len = 1; stored = set (s .stored) 0 b }))
+        by-cond (λ (p : Position). Trace fed (begun b p s))
         (eqb b revision) ByteCount (cond (eqb b flag) SerialRevision FrameSearch)
         (λ e. let same = ap (λ (c : ℕ). c ∷ []) (eqb-true b revision e) in
         record {
@@ -192,7 +192,7 @@ module _ (h : List ℕ) (b : ℕ) (s : Receiver) where
           heard = ap (λ (l : List ℕ). h ++ l) same;
           holds = take-suc-set (s .stored) 0 b (omega arith) ∙ same;
         })
-        (λ e. by-cond (λ (p : Position). Trace fed (record { position = p; count = 0; len = 1; stored = set (s .stored) 0 b }))
+        (λ e. by-cond (λ (p : Position). Trace fed (begun b p s))
         (eqb b flag) SerialRevision FrameSearch flag-opens (λ f. tt))
 
     count-traced : s .len ≡ 1 → Read h s (revision ∷ []) (revision ∷ []) → Trace fed (byteCountRow b s)

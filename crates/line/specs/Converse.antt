@@ -11,30 +11,44 @@ use Rattle.serial.specs.declared.receiver.Outcome.the-variants.{Packet}
 use Rattle.framing.specs.Frame.{behindFlag, flag, frame, revision}
 use Rattle.framing.specs.Computed.{ending}
 use Rattle.serial.specs.Receiver.{freshOf, stepOf}
-use Rattle.serial.specs.Run.{runOf, packetIn, outsOf}
+use Rattle.serial.specs.Run.{Step, outsOf, packetIn, runBy}
 
--- where the opening flag stands: the last byte of these is a flag, or stands in its place, taken in FrameEnd
-pub record Opened (bytes : List ℕ) : Type 0 where
+-- by a step, where the opening flag stands: the last byte of these is a flag, or stands in its place, taken in FrameEnd
+pub record OpenedBy (step : Step) (bytes : List ℕ) : Type 0 where
   pub before : List ℕ
   pub opening : ℕ
   pub parts : bytes ≡ before ++ (opening ∷ [])
-  pub opens : (opening ≡ flag) ⊎ (runOf freshOf before .position ≡ FrameEnd)
+  pub opens : (opening ≡ flag) ⊎ (runBy step freshOf before .position ≡ FrameEnd)
 
 -- these bytes end with the packet's frame, from the revision on
-pub record SentAs (bytes packet : List ℕ) : Type 0 where
+pub record SentAsBy (step : Step) (bytes packet : List ℕ) : Type 0 where
   pub before : List ℕ
   pub parts : bytes ≡ before ++ behindFlag packet
-  pub opened : Opened before
+  pub opened : OpenedBy step before
 
 -- from fresh, after any bytes h, a byte b that hands out a packet ends that packet's frame
+abbrev pub OnlyAsSentBy : Step → Type 0
+OnlyAsSentBy step = (h : List ℕ) (b n : ℕ) → Bytes h → step b (runBy step freshOf h) .outcome ≡ Packet n
+    → SentAsBy step (h ++ (b ∷ [])) (packetIn n (step b (runBy step freshOf h) .state))
+
+-- by our step
+abbrev pub Opened : List ℕ → Type 0
+Opened bytes = OpenedBy stepOf bytes
+
+abbrev pub SentAs : List ℕ → List ℕ → Type 0
+SentAs bytes packet = SentAsBy stepOf bytes packet
+
 abbrev pub OnlyAsSent : Type 0
-OnlyAsSent = (h : List ℕ) (b n : ℕ) → Bytes h → stepOf b (runOf freshOf h) .outcome ≡ Packet n
-    → SentAs (h ++ (b ∷ [])) (packetIn n (stepOf b (runOf freshOf h) .state))
+OnlyAsSent = OnlyAsSentBy stepOf
+
+-- so it is with each packet and its place
+abbrev pub Each : (ℕ → List ℕ → Type 0) → List (ℕ × List ℕ) → Type 0
+Each so [] = Unit {0}
+Each so (o ∷ os) = so (o .0) (o .1) × Each so os
 
 -- of a whole stream: each packet at its place
 abbrev pub AllAsSent : List ℕ → List (ℕ × List ℕ) → Type 0
-AllAsSent stream [] = Unit {0}
-AllAsSent stream (o ∷ os) = SentAs (take (o .0 + 1) stream) (o .1) × AllAsSent stream os
+AllAsSent stream outs = Each (λ place packet. SentAs (take (place + 1) stream) packet) outs
 
 abbrev pub StreamAsSent : Type 0
 StreamAsSent = (stream : List ℕ) → Bytes stream → AllAsSent stream (outsOf 0 freshOf stream)

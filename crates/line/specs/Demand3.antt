@@ -10,24 +10,35 @@ use Rattle.serial.specs.declared.receiver.Position.the-variants.{FrameSearch, S
 use Rattle.serial.specs.declared.receiver.Receiver.{Receiver}
 use Rattle.framing.specs.Frame.{flag, frame, frames, AllSendable}
 use Rattle.serial.specs.Consistency.{Consistent}
-use Rattle.serial.specs.Receiver.{freshOf}
-use Rattle.serial.specs.Run.{runOf, outsOf}
+use Rattle.serial.specs.Receiver.{freshOf, stepOf}
+use Rattle.serial.specs.Run.{Step, outsBy, outsOf, runBy, runOf}
+
+-- packets with places, of packets whose first frame begins at a place
+abbrev pub Places : Type 0
+Places = ℕ → List (List ℕ) → List (ℕ × List ℕ)
 
 -- each packet with the place of its frame's last byte; the first frame begins at place i
-unfoldable pub placed : ℕ → List (List ℕ) → List (ℕ × List ℕ)
+unfoldable pub placed : Places
 placed i [] = []
 placed i (p ∷ ps) = (i + length (frame p) - 1, p) ∷ placed (i + length (frame p)) ps
 
 abbrev pub flags : ℕ → List ℕ
 flags n = replicate n flag
 
--- from a state on, frames hand out their packets, each on its frame's last byte, and nothing else; their first byte has place i
-abbrev pub Hears : Receiver → Type 0
-Hears s = (i : ℕ) (ps : List (List ℕ)) → AllSendable ps → outsOf i s (frames ps) ≡ placed i ps
+-- by a step, from a state on, frames hand out their packets at these places and nothing else; their first byte has place i
+abbrev pub HearsBy : Step → Places → Receiver → Type 0
+HearsBy step places s = (i : ℕ) (ps : List (List ℕ)) → AllSendable ps → outsBy step i s (frames ps) ≡ places i ps
 
 -- after any history and n flags
+abbrev pub HearsAfterBy : Step → Places → ℕ → Type 0
+HearsAfterBy step places n = (h : List ℕ) → Bytes h → HearsBy step places (runBy step freshOf (h ++ flags n))
+
+-- by our step, each packet on its frame's last byte
+abbrev pub Hears : Receiver → Type 0
+Hears s = HearsBy stepOf placed s
+
 abbrev pub HearsAfter : ℕ → Type 0
-HearsAfter n = (h : List ℕ) → Bytes h → Hears (runOf freshOf (h ++ flags n))
+HearsAfter n = HearsAfterBy stepOf placed n
 
 abbrev pub Demand3 : Type 0
 Demand3 = HearsAfter 3

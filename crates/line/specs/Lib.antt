@@ -3,3 +3,4 @@ pub mod Lost
 pub mod Computed
 pub mod Converse
 pub mod Cutting
+pub mod Wrong

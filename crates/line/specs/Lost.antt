@@ -7,17 +7,18 @@ use mathlib.Core.Path.{_≡_}
 use mathlib.Core.List.{List, [], _∷_, _++_}
 use lib.ListN.{length, getD, replicate}
 use Rattle.line.specs.Demand3.{flags}
+use Rattle.serial.specs.declared.receiver.Receiver.{Receiver}
 use Rattle.framing.specs.Frame.{flag, frames, AllSendable}
 use Rattle.serial.specs.Receiver.{freshOf}
 use Rattle.serial.specs.Run.{runOf, outsOf}
 
--- case N: a frame cut short
-abbrev pub cutShort : List ℕ
-cutShort = flag ∷ 0x01 ∷ 0x05 ∷ 0x01 ∷ 0x0a ∷ 0x09 ∷ 0xc8 ∷ 0x00 ∷ []
-
--- and two flags
+-- case N's losing history: a frame cut short
 abbrev pub losing : List ℕ
-losing = cutShort ++ flags 2
+losing = flag ∷ 0x01 ∷ 0x05 ∷ 0x01 ∷ 0x0a ∷ 0x09 ∷ 0xc8 ∷ 0x00 ∷ []
+
+-- the state behind it and two flags
+abbrev pub afterLosing : Receiver
+afterLosing = runOf freshOf (losing ++ flags 2)
 
 -- a packet of 126 bytes: 01 and a count of 1 for the first frame inside, its byte, its check bytes, a byte in FrameEnd; 01 and a count of
 -- 119 for the second, whose bytes are the rest and the first check byte
@@ -34,11 +35,11 @@ pub record Unheard (k : ℕ) : Type 0 where
   pub many : length packets ≡ k
   pub begin01 : AllBegin01 packets
   pub sendable : AllSendable packets
-  pub silent : outsOf 0 (runOf freshOf losing) (frames packets) ≡ []
+  pub silent : outsOf 0 afterLosing (frames packets) ≡ []
 
 abbrev pub LostWithoutEnd : Type 0
 LostWithoutEnd = (k : ℕ) → Unheard k
 
 -- with the one packet above, k times
 abbrev pub LostPacketUnheard : Type 0
-LostPacketUnheard = (k : ℕ) → outsOf 0 (runOf freshOf losing) (frames (replicate k lostPacket)) ≡ []
+LostPacketUnheard = (k : ℕ) → outsOf 0 afterLosing (frames (replicate k lostPacket)) ≡ []
