@@ -4,11 +4,11 @@ use mathlib.Core.Path.{_≡_, _∙_, ap, ap₂, refl, subst, sym}
 use mathlib.Core.Logic.{_≢_}
 use mathlib.Core.List.{List, [], _∷_, _++_}
 use native.Mathlib.Omega.{arith}
-use lib.ListN.{length, getD, length-append}
+use lib.ListN.{length, getD, replicate, length-append}
 use lib.Seq.{getD-append-add}
 use Rattle.checks.specs.Laws.{Bytes}
 use Rattle.checks.specs.Register.{bitStep, bitSteps, byteStep, checkFrom}
-use Rattle.checks.proofs.Bytes.{EachByte, bytes-each, bytes-none}
+use Rattle.checks.proofs.Bytes.{bytes-each, bytes-none, bytes-replicate}
 use Rattle.serial.specs.declared.receiver.Receiver.{Receiver}
 use Rattle.serial.specs.declared.receiver.Outcome.the-variants.{Packet}
 use Rattle.serial.specs.declared.receiver.Stepped.{Stepped}
@@ -24,7 +24,7 @@ use Rattle.line.specs.Converse.{Each, OnlyAsSentBy, SentAsBy}
 use Rattle.line.specs.Cutting.{fedBy}
 use Rattle.line.specs.Demand3.{HearsAfterBy, flags, placed}
 use Rattle.line.specs.Lost.{lostPacket}
-use Rattle.line.specs.Wrong.{CheckIgnoredFails, ComplementedFails, EscapeInCheckFails, FlagInCheckFails, FlagInCountFails, FlagsPairedFails, FlippedFails, FreshEachCallFails, HandsOutOnly, LenientFails, LowFirstFails, NeverHandsOutFails, OneTooManyFails, PlacedEarlyFails, SamePacketFails, Stuck, StuckFails, checkIgnored, complemented, early, escapeInCheck, flagInCheck, flagInCount, flagsPaired, flipped, lenient, lowFirst}
+use Rattle.line.specs.Wrong.{CheckIgnoredFails, ComplementedFails, EscapeInCheckFails, EscapeInCountFails, FlagInCheckFails, FlagInCountFails, FlagsPairedFails, FlippedFails, FreshEachCallFails, HandsOutOnly, LenientFails, LowFirstFails, NeverHandsOutFails, OneTooManyFails, PlacedEarlyFails, SamePacketFails, Stuck, StuckFails, checkIgnored, complemented, early, escapeInCheck, escapeInCount, flagInCheck, flagInCount, flagsPaired, flipped, lenient, lowFirst}
 use Rattle.line.proofs.Converse.{emit-each}
 use Rattle.line.proofs.Demand3.{demand-3, not-heard}
 use Rattle.line.proofs.Ending.{ending-sent}
@@ -39,11 +39,11 @@ Missed step p = outsBy step 0 (runBy step freshOf (flags 3)) (frames (p ∷ []))
 missed-fails : (step : Step) (p : List ℕ) → Sendable p → Missed step p → HearsAfterBy step placed 3 → ⊥
 missed-fails step p sent missed = not-heard step [] 3 p bytes-none sent missed
 
--- case A's packet, and two whose checks are 7e37 and 7d2f
+-- case A's packet, two whose checks are 7e37 and 7d2f, and one of 125 bytes
 missed : Missed flagsPaired (ending flag) × Missed lowFirst (ending flag) × Missed complemented (ending flag)
-    × Missed flagInCheck (ending 0x3f) × Missed escapeInCheck (ending 0x0c)
+    × Missed flagInCheck (ending 0x3f) × Missed escapeInCheck (ending 0x0c) × Missed escapeInCount (replicate 125 0x00)
 unfolding outsBy runBy stepOf consistentOf fitsAt rowOf agreesOf frames frame escapedAll escaped checkFrom byteStep bitSteps bitStep
-missed = (refl, refl, refl, refl, refl)
+missed = (refl, refl, refl, refl, refl, refl)
 
 pub flags-paired-fails : FlagsPairedFails
 flags-paired-fails = missed-fails flagsPaired (ending flag) (ending-sent flag (omega arith)) (missed .0)
@@ -59,6 +59,10 @@ flag-in-check-fails = missed-fails flagInCheck (ending 0x3f) (ending-sent 0x3f (
 
 pub escape-in-check-fails : EscapeInCheckFails
 escape-in-check-fails = missed-fails escapeInCheck (ending 0x0c) (ending-sent 0x0c (omega arith)) (missed .4)
+
+pub escape-in-count-fails : EscapeInCountFails
+escape-in-count-fails =
+    missed-fails escapeInCount (replicate 125 0x00) (bytes-replicate 125 0x00 (omega arith), omega arith, omega arith) (missed .5)
 
 -- the count 126 opens a frame, and then all goes as behind the losing history
 lost-missed : outsBy flagInCount 0 (runBy flagInCount freshOf (flags 3)) (lostLine ++ []) ≡ []
@@ -124,12 +128,12 @@ not-sent step bytes packet i other sent =
     other (ap₂ (λ (l : List ℕ) (k : ℕ). getD l k 0) (sent .parts) place ∙ getD-append-add before (behindFlag packet) i 0)
 
 -- a packet that is handed out by a byte b behind bytes h, and whose frame they don't end
-not-as-sent : (step : Step) (h packet : List ℕ) (b n i : ℕ) → EachByte h → step b (runBy step freshOf h) .outcome ≡ Packet n
+not-as-sent : (step : Step) (h packet : List ℕ) (b n i : ℕ) → Bytes h → step b (runBy step freshOf h) .outcome ≡ Packet n
     → packetIn n (step b (runBy step freshOf h) .state) ≡ packet
     → getD (h ++ (b ∷ [])) (length (h ++ (b ∷ [])) - length (behindFlag packet) + i) 0 ≢ getD (behindFlag packet) i 0
     → OnlyAsSentBy step → ⊥
-not-as-sent step h packet b n i each hands is other all =
-    not-sent step (h ++ (b ∷ [])) packet i other (subst (SentAsBy step (h ++ (b ∷ []))) is (all h b n (bytes-each h each) hands))
+not-as-sent step h packet b n i bytes hands is other all =
+    not-sent step (h ++ (b ∷ [])) packet i other (subst (SentAsBy step (h ++ (b ∷ []))) is (all h b n bytes hands))
 
 -- the line of a packet of five bytes up to its closing flag
 abbrev openLine : List ℕ → List ℕ → List ℕ
@@ -139,20 +143,24 @@ openLine line checks = flag ∷ revision ∷ 0x05 ∷ (line ++ checks)
 abbrev badPair : ℕ → List ℕ
 badPair b = openLine (0x01 ∷ 0x0a ∷ 0x09 ∷ 0xc8 ∷ escape ∷ 0x41 ∷ []) (checkBytes (ending b))
 
+-- with 00 00 for its check bytes
+abbrev noCheck : List ℕ
+noCheck = openLine (ending 0x00) (0x00 ∷ 0x00 ∷ [])
+
 pub lenient-fails : LenientFails
 unfolding runBy stepOf consistentOf fitsAt rowOf agreesOf escapedAll escaped checkFrom byteStep bitSteps bitStep
 lenient-fails =
-    not-as-sent lenient (badPair 0x41) (ending 0x41) flag 5 0 (omega arith) refl refl (λ e. omega arith)
+    not-as-sent lenient (badPair 0x41) (ending 0x41) flag 5 0 (bytes-each (badPair 0x41) (omega arith)) refl refl (λ e. omega arith)
 
 pub flipped-fails : FlippedFails
 unfolding runBy stepOf consistentOf fitsAt rowOf agreesOf escapedAll escaped checkFrom byteStep bitSteps bitStep
 flipped-fails =
-    not-as-sent flipped (badPair 0x61) (ending 0x61) flag 5 0 (omega arith) refl refl (λ e. omega arith)
+    not-as-sent flipped (badPair 0x61) (ending 0x61) flag 5 0 (bytes-each (badPair 0x61) (omega arith)) refl refl (λ e. omega arith)
 
 pub check-ignored-fails : CheckIgnoredFails
 unfolding runBy stepOf consistentOf fitsAt rowOf agreesOf escapedAll escaped checkFrom byteStep bitSteps bitStep
 check-ignored-fails =
-    not-as-sent checkIgnored (openLine (ending 0x00) (0x00 ∷ 0x00 ∷ [])) (ending 0x00) flag 5 7 (omega arith) refl refl (λ e. omega arith)
+    not-as-sent checkIgnored noCheck (ending 0x00) flag 5 7 (bytes-each noCheck (omega arith)) refl refl (λ e. omega arith)
 
 -- ---- places
 

@@ -69,6 +69,13 @@ flagInCheck = misread flag Check SerialRevision
 abbrev pub FlagInCheckFails : Type 0
 FlagInCheckFails = HearsAfterBy flagInCheck placed 3 → ⊥
 
+-- an escape is looked for in ByteCount and left out: a packet of 125 bytes is not heard
+abbrev pub escapeInCount : Step
+escapeInCount = misread escape ByteCount ByteCount
+
+abbrev pub EscapeInCountFails : Type 0
+EscapeInCountFails = HearsAfterBy escapeInCount placed 3 → ⊥
+
 -- an escape is looked for in Check and left out: a packet whose check has the byte 7d is not heard
 abbrev pub escapeInCheck : Step
 escapeInCheck = misread escape Check Check
