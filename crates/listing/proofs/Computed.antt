@@ -3,9 +3,10 @@ use mathlib.Core.Path.{refl}
 use Rattle.checks.specs.Register.{bitStep, bitSteps, byteStep, checkFrom}
 use Rattle.serial.specs.Receiver.{agreesOf, consistentOf, fitsAt, rowOf, stepOf}
 use Rattle.serial.specs.Run.{outsBy, packetsOf}
-use Rattle.listing.specs.Closing.{digitsOf}
+use Rattle.text.specs.Decimal.{digitsOf}
+use Rattle.text.specs.Hex.{hexAll}
 use Rattle.listing.specs.Computed.{CaseAWritten, LargestWritten}
-use Rattle.listing.specs.Text.{hexAll, linesOf}
+use Rattle.listing.specs.Text.{linesOf}
 
 pub case-a-written : CaseAWritten
 unfolding hexAll linesOf packetsOf digitsOf outsBy stepOf consistentOf fitsAt rowOf agreesOf checkFrom byteStep bitSteps bitStep

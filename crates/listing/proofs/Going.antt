@@ -18,8 +18,8 @@ use Rattle.serial.specs.Run.{heard, outsBy, packetsOf, runBy, runOf}
 use Rattle.listing.specs.Text.{linesOf}
 use Rattle.listing.specs.Turn.{nextHeard, nextTaken}
 use Rattle.listing.proofs.Said.{Said}
-use Rattle.listing.proofs.TextMade.{lines-least}
-use Rattle.listing.proofs.TurnLaws.{lines-append, next-heard, next-kept, next-run, next-some, next-within}
+use Rattle.listing.proofs.TextLaws.{lines-append, lines-least}
+use Rattle.listing.proofs.TurnLaws.{next-heard, next-kept, next-run, next-some, next-within}
 
 -- of an input from the state s₀ into the output out₀: what is reached is the state s, the place, `used` bytes of text in `out`, and so many packets
 pub record Going (input out₀ : List ℕ) (s₀ : Receiver) (out : List ℕ) (s : Receiver) (place used packets : ℕ) : Type 0 where

@@ -1,11 +1,9 @@
-pub mod TextMade
+pub mod TextLaws
 pub mod TurnLaws
 pub mod Said
 pub mod Going
 pub mod Room
 pub mod ListSaid
 pub mod Pieces
-pub mod DecimalLaws
-pub mod TextLaws
 pub mod OneResult
 pub mod Computed

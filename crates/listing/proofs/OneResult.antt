@@ -14,14 +14,14 @@ use Rattle.listing.specs.declared.lines.Lines.{Lines}
 use Rattle.listing.specs.declared.lines.Lines.the-variants.{Done, Inconsistent, ShortOutput}
 use Rattle.listing.specs.declared.lines.Listed.{Listed}
 use Rattle.listing.specs.Listing.{linesAnswer}
-use Rattle.listing.proofs.closing_line.closing.Kinds as closing
-use Rattle.listing.proofs.closing_line.closing.Reads as closing-reads
+use Rattle.listing.proofs.ending.closing_line.Kinds as closing-line
+use Rattle.listing.proofs.ending.closing_line.Reads as closing-line-reads
 use Rattle.listing.proofs.lines.list.Kinds as list
 use Rattle.listing.proofs.lines.list.Reads as list-reads
 
 -- the output is the last parameter
-pub closing-one : OneOutcome 1 closing.ps closing.r (λ κs e. now (e .1 .1 .0)) closing-reads.Post
-closing-one κs a x y e f p q = (p .1 .0 ∙ sym (q .1 .0), p .1 .1 ∙ sym (q .1 .1))
+pub closing-line-one : OneOutcome 1 closing-line.ps closing-line.r (λ κs e. now (e .1 .1 .0)) closing-line-reads.Post
+closing-line-one κs a x y e f p q = (p .1 .0 ∙ sym (q .1 .0), p .1 .1 ∙ sym (q .1 .1))
 
 -- the result, back from its answer
 abbrev back : Answer → Lines

@@ -17,7 +17,7 @@ use Rattle.listing.specs.Closing.{closingLine}
 use Rattle.listing.specs.Laws.{AnyReads, ReadsWriteAll, ThreeFlagsListed, countedBy, joined, writtenBy}
 use Rattle.listing.specs.Listing.{listed, roomy, stateAfter}
 use Rattle.listing.specs.Text.{linesOf}
-use Rattle.listing.proofs.TurnLaws.{lines-append}
+use Rattle.listing.proofs.TextLaws.{lines-append}
 
 -- a piece with its room, from a consistent state
 listed-all : (input : List ℕ) (room : ℕ) (s : Receiver) → consistentOf s ≡ true → roomy (length input) room ≡ true → listed input room s ≡ heard s input

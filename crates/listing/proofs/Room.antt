@@ -22,8 +22,9 @@ use Rattle.serial.specs.Run.{emit, outsBy, outsOf, packetIn, packetsOf}
 use Rattle.serial.proofs.Consistent.{FitsAt, facts, row-of}
 use Rattle.serial.proofs.Keeps.{keeps}
 use Rattle.listing.specs.Laws.{TextFits}
-use Rattle.listing.specs.Text.{lineOf, linesOf}
-use Rattle.listing.proofs.TextMade.{line-length}
+use Rattle.text.specs.Hex.{lineOf}
+use Rattle.text.proofs.HexLaws.{line-length}
+use Rattle.listing.specs.Text.{linesOf}
 
 -- the text in store: two bytes for each stored byte of a frame under way
 weightAt : Position → ℕ → ℕ

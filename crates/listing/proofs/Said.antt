@@ -16,9 +16,13 @@ use Rattle.serial.specs.declared.taker.Taken.{Taken}
 use Rattle.serial.specs.Consistency.{Consistent}
 use Rattle.serial.specs.Run.{heard, packetIn}
 use Rattle.serial.specs.Taker.{copiedOf, takenOf}
-use Rattle.listing.specs.Text.{lineOf, linesOf}
+use Rattle.text.specs.Hex.{lineOf}
+use Rattle.text.specs.Put.{putEnd, putText}
+use Rattle.text.proofs.PutLaws.{with-room}
+use Rattle.listing.specs.Text.{linesOf}
 use Rattle.listing.specs.Turn.{handedOut, nextHeard, nextTaken}
-use Rattle.listing.proofs.TurnLaws.{lines-append, next-heard, next-packet}
+use Rattle.listing.proofs.TextLaws.{lines-append, no-lines, one-line}
+use Rattle.listing.proofs.TurnLaws.{next-heard, next-packet}
 
 -- what is promised of a call: the bytes taken, the place behind the text, the packets, the state and the output
 abbrev pub Said : Receiver → List ℕ → ℕ → List ℕ → ℕ → ℕ → ℕ → Receiver → List ℕ → Type 0
@@ -27,15 +31,6 @@ Said s input used out taken end packets state left =
     × ((end ≡ used + length (linesOf (nextHeard s input)))
     × ((packets ≡ length (nextHeard s input))
     × ((state ≡ nextTaken s input .state) × (left ≡ putAt used (linesOf (nextHeard s input)) out))))
-
--- the line of one packet
-one-line : (packet : List ℕ) → linesOf (packet ∷ []) ≡ lineOf packet
-unfolding linesOf
-one-line packet = append-nil (lineOf packet)
-
-no-lines : linesOf [] ≡ []
-unfolding linesOf
-no-lines = refl
 
 -- what is known behind a call of the taker with a packet's room: `before` and `after` are what the room held
 pub record Called (s : Receiver) (input before after : List ℕ) (t : Taken) : Type 0 where
@@ -82,7 +77,7 @@ module _ (s : Receiver) (input before after : List ℕ) (t : Taken) (d : Called 
     line-one : linesOf (nextHeard s input) ≡ lineOf (take n after)
     line-one = ap linesOf heard-one ∙ one-line (take n after)
 
-    pub line-fits : (used room : ℕ) → used + length (linesOf (heard s input)) ≤ room → used + length (lineOf (take n after)) ≤ room
+    line-fits : (used room : ℕ) → used + length (linesOf (heard s input)) ≤ room → used + length (lineOf (take n after)) ≤ room
     line-fits used room k =
         let rest = heard (nextTaken s input .state) (drop (nextTaken s input .taken) input) in
         omega (
@@ -93,18 +88,20 @@ module _ (s : Receiver) (input before after : List ℕ) (t : Taken) (d : Called 
           length-append (linesOf (nextHeard s input)) (linesOf rest),
         )
 
-    pub packet-said : (used end : ℕ) (out left : List ℕ) → end ≡ used + length (lineOf (take n after))
-        → left ≡ putAt used (lineOf (take n after)) out → Said s input used out (t .taken) end 1 (t .state) left
-    packet-said used end out left ee el = (
-      ap (λ (x : Taken). x .taken) same,
-      (ee ∙ ap (λ (xs : List ℕ). used + length xs) (sym line-one), (ap length (sym heard-one), (ap (λ (x : Taken). x .state) same, el ∙ ap (λ (xs : List ℕ). putAt used xs out) (sym line-one)))),
-    )
+    pub packet-said : (used end : ℕ) (out left : List ℕ) → used + length (linesOf (heard s input)) ≤ length out
+        → end ≡ putEnd used (lineOf (take n after)) (length out) → left ≡ putText used (lineOf (take n after)) out
+        → Said s input used out (t .taken) end 1 (t .state) left
+    packet-said used end out left room ee el =
+        let there = with-room used (lineOf (take n after)) out (line-fits used (length out) room) in (
+          ap (λ (x : Taken). x .taken) same,
+          (ee ∙ there .0 ∙ ap (λ (xs : List ℕ). used + length xs) (sym line-one), (ap length (sym heard-one), (ap (λ (x : Taken). x .state) same, el ∙ there .1 ∙ ap (λ (xs : List ℕ). putAt used xs out) (sym line-one)))),
+        )
 
   -- none was
-  pub none-said : (r : Reason) (used : ℕ) (out : List ℕ) → t .reason ≡ r → handedOut r (nextTaken s input .state) ≡ [] → used ≤ length out
+  pub none-said : (used : ℕ) (out : List ℕ) → handedOut (t .reason) (t .state) ≡ [] → used ≤ length out
       → Said s input used out (t .taken) used 0 (t .state) out
-  none-said r used out f none room =
-      let heard-none : nextHeard s input ≡ [] = ap (λ (q : Reason). handedOut q (nextTaken s input .state)) (sym (ap (λ (x : Taken). x .reason) same) ∙ f) ∙ none in
+  none-said used out none room =
+      let heard-none : nextHeard s input ≡ [] = ap (λ (x : Taken). handedOut (x .reason) (x .state)) (sym same) ∙ none in
       let text-none : linesOf (nextHeard s input) ≡ [] = ap linesOf heard-none ∙ no-lines in (
         ap (λ (x : Taken). x .taken) same,
         (omega (arith, ap length text-none), (ap length (sym heard-none), (ap (λ (x : Taken). x .state) same, sym (ap (λ (xs : List ℕ). putAt used xs out) text-none ∙ put-none used out room)))),

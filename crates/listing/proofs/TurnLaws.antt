@@ -6,6 +6,7 @@ use native.Mathlib.Omega.{arith}
 use lib.ListN.{length, drop}
 use lib.Seq.{take-length}
 use Rattle.checks.specs.Laws.{Bytes}
+use Rattle.framing.specs.Frame.{packetMost}
 use Rattle.serial.specs.declared.receiver.Receiver.{Receiver}
 use Rattle.serial.specs.declared.taker.Reason.{Reason}
 use Rattle.serial.specs.declared.taker.Reason.the-variants.{Packet as PacketTaken, InputEnded, AllowanceSpent, ShortOutput, Inconsistent as InconsistentTaken}
@@ -13,19 +14,11 @@ use Rattle.serial.specs.declared.taker.Taken.{Taken}
 use Rattle.serial.specs.Consistency.{Consistent}
 use Rattle.serial.specs.Steps.{Call, called, handed}
 use Rattle.serial.specs.Run.{heard, outsOf, packetIn, packetsOf, runOf}
-use Rattle.serial.specs.Taker.{Fair, takeFrom, takenOf}
+use Rattle.serial.specs.Taker.{takeFrom, takenOf}
 use Rattle.serial.proofs.Steps.{goes-on, kept, state-goes-on, takes-one, within}
 use Rattle.serial.proofs.Run.{any-place, packets-append}
-use Rattle.serial.proofs.TakerLaws.{packet-length, took}
-use Rattle.listing.specs.Text.{lineOf, linesOf}
+use Rattle.serial.proofs.TakerLaws.{Few, packet-length, took}
 use Rattle.listing.specs.Turn.{handedOut, nextHeard, nextTaken}
-
--- the lines of packets joined
-pub lines-append : (ps qs : List (List ℕ)) → linesOf (ps ++ qs) ≡ linesOf ps ++ linesOf qs
-unfolding linesOf
-lines-append [] qs = refl
-lines-append (p ∷ ps) qs =
-    ap (λ (rest : List ℕ). lineOf p ++ rest) (lines-append ps qs) ∙ sym (append-assoc (lineOf p) (linesOf ps) (linesOf qs))
 
 -- ---- one call
 
@@ -50,11 +43,11 @@ turn-heard c s stream fits =
 -- ---- a call that may take the whole input
 
 whole : List ℕ → Call
-whole input = record { offered = length input; allowance = length input; room = 255 }
+whole input = record { offered = length input; allowance = length input; room = packetMost }
 
 same-call : (s : Receiver) (input : List ℕ) → called (whole input) s input ≡ nextTaken s input
 unfolding whole
-same-call s input = ap (λ (xs : List ℕ). takenOf xs (length input) 255 s) (take-length input)
+same-call s input = ap (λ (xs : List ℕ). takenOf xs (length input) packetMost s) (take-length input)
 
 module _ (s : Receiver) (input : List ℕ) (fits : Consistent s) where
   -- what it hands out comes first, and one pass goes on behind the bytes that it took
@@ -73,16 +66,16 @@ module _ (s : Receiver) (input : List ℕ) (fits : Consistent s) where
   next-kept h = subst (λ (t : Taken). Consistent (t .state)) (same-call s input) (kept (whole input) s input fits h)
 
   -- a packet has as many bytes as is said, at most 255
-  pub next-packet : (n : ℕ) → Bytes input → nextTaken s input .reason ≡ PacketTaken n → (n ≤ 255) × (length (packetIn n (nextTaken s input .state)) ≡ n)
+  pub next-packet : (n : ℕ) → Bytes input → nextTaken s input .reason ≡ PacketTaken n → (n ≤ packetMost) × (length (packetIn n (nextTaken s input .state)) ≡ n)
   unfolding takenOf
   next-packet n h e =
       let from : nextTaken s input ≡ takeFrom input (length input) s 0 = simp (fits .fits) in
-      let few : n ≤ 255 = subst Fair (sym (ap (λ (t : Taken). t .reason) from) ∙ e) (took input (length input) s fits h .0) in
+      let few : n ≤ packetMost = subst Few (sym (ap (λ (t : Taken). t .reason) from) ∙ e) (took input (length input) s fits h .0) in
       (few, packet-length (nextTaken s input .state) n (next-kept h .sized) few)
 
 -- where there is a byte it takes one
 pub next-some : (s : Receiver) (input : List ℕ) → Consistent s → 1 ≤ length input → 1 ≤ nextTaken s input .taken
 next-some s [] fits h = absurd (omega arith)
 next-some s (b ∷ bs) fits h =
-    subst (λ (xs : List ℕ). 1 ≤ takenOf xs (length (b ∷ bs)) 255 s .taken) (take-length (b ∷ bs))
-    (takes-one b bs s (length (b ∷ bs)) (length (b ∷ bs)) 255 fits h h (omega arith))
+    subst (λ (xs : List ℕ). 1 ≤ takenOf xs (length (b ∷ bs)) packetMost s .taken) (take-length (b ∷ bs))
+    (takes-one b bs s (length (b ∷ bs)) (length (b ∷ bs)) packetMost fits h h (omega arith))

@@ -1,22 +1,12 @@
 -- The closing line, `end: bytes N packets M`, and all that is written for an input (document 01, 'Program'). Assumes nothing.
-use Prim.Native.Nat.{ℕ, zero, suc, _/_, _%_}
-use mathlib.Core.Bool.{cond}
+use Prim.Native.Nat.{ℕ}
 use mathlib.Core.List.{List, [], _∷_, _++_}
-use lib.Dec.{ltb}
 use lib.ListN.{length}
-use Rattle.io.specs.Digits.{glyph}
 use Rattle.serial.specs.Receiver.{freshOf}
 use Rattle.serial.specs.Run.{heard}
-use Rattle.listing.specs.Text.{lineFeed, linesOf}
-
--- a number's decimal digits, the highest first and at most k of them, without leading zeros
-unfoldable pub digitsOf : ℕ → ℕ → List ℕ
-digitsOf zero n = []
-digitsOf (suc k) n = cond (ltb n 10) (glyph n ∷ []) (digitsOf k (n / 10) ++ (glyph (n % 10) ∷ []))
-
--- a number of 64 bits has at most 20
-abbrev pub decimal : ℕ → List ℕ
-decimal n = digitsOf 20 n
+use Rattle.text.specs.Decimal.{decimal}
+use Rattle.text.specs.Hex.{lineFeed}
+use Rattle.listing.specs.Text.{linesOf}
 
 -- `end: bytes `
 abbrev pub endBytes : List ℕ

@@ -1,24 +1,7 @@
--- Packets as text: a packet is a line of lower-case hex (document 01, 'Program'). Assumes nothing.
-use Prim.Native.Nat.{ℕ, _/_, _%_}
+-- Packets as text: the lines of hex of each packet (document 01, 'Program'). Assumes nothing.
+use Prim.Native.Nat.{ℕ}
 use mathlib.Core.List.{List, [], _∷_, _++_}
-use Rattle.io.specs.Digits.{glyph}
-
--- the line feed that ends a line
-abbrev pub lineFeed : ℕ
-lineFeed = 0x0a
-
--- a byte's two digits, the high one first; the kit's `glyph` is the ASCII code of a digit, `0` to `9` and then `a` to `f`
-abbrev pub hexOf : ℕ → List ℕ
-hexOf b = glyph (b / 16) ∷ glyph (b % 16) ∷ []
-
--- the digits of all bytes
-unfoldable pub hexAll : List ℕ → List ℕ
-hexAll [] = []
-hexAll (b ∷ bs) = hexOf b ++ hexAll bs
-
--- a packet's line
-abbrev pub lineOf : List ℕ → List ℕ
-lineOf packet = hexAll packet ++ (lineFeed ∷ [])
+use Rattle.text.specs.Hex.{lineOf}
 
 -- the lines of packets, one behind the other
 unfoldable pub linesOf : List (List ℕ) → List ℕ

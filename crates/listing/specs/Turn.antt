@@ -2,6 +2,7 @@
 use Prim.Native.Nat.{ℕ}
 use mathlib.Core.List.{List, [], _∷_}
 use lib.ListN.{length}
+use Rattle.framing.specs.Frame.{packetMost}
 use Rattle.serial.specs.declared.receiver.Receiver.{Receiver}
 use Rattle.serial.specs.declared.taker.Reason.{Reason}
 use Rattle.serial.specs.declared.taker.Reason.the-variants.{Packet, InputEnded, AllowanceSpent, ShortOutput, Inconsistent}
@@ -11,7 +12,7 @@ use Rattle.serial.specs.Taker.{takenOf}
 
 -- a call that may take the whole input
 abbrev pub nextTaken : Receiver → List ℕ → Taken
-nextTaken s input = takenOf input (length input) 255 s
+nextTaken s input = takenOf input (length input) packetMost s
 
 -- the packet that was handed out, if one was
 abbrev pub handedOut : Reason → Receiver → List (List ℕ)

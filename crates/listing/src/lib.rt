@@ -1,9 +1,8 @@
 // What a serial line carries, as text: each packet as a line of lower-case hex, and a closing line (document 01, 'Program').
-mod closing_line;
-mod hex;
+mod ending;
 mod lines;
 
-pub use closing_line::closing;
+pub use ending::closing_line;
 pub use lines::Lines;
 pub use lines::Listed;
 pub use lines::list;

@@ -4,14 +4,14 @@ ghost use mathlib.Core.Path.{_≡_};
 ghost use mathlib.Core.Bool.{true};
 ghost use mathlib.Core.List.{[], _∷_};
 ghost use lib.ListN.{length};
-ghost use Rattle.checks.specs.Numbers.{answer, done};
+ghost use Rattle.checks.specs.Numbers.{answer, done, valueOf};
 ghost use Rattle.checks.specs.Output.{atStart, putAt};
 ghost use Rattle.serial.specs.Receiver.{consistentOf};
 ghost use Rattle.serial.specs.Run.{heard, runOf};
 ghost use Rattle.listing.specs.Listing.{Within, linesAnswer, listAnswer, listed, roomy, stateAfter};
 ghost use Rattle.listing.specs.Text.{linesOf};
 ghost use Rattle.listing.specs.Turn.{nextHeard, nextTaken};
-use crate::hex::put_line;
+use framing::PACKET_MOST;
 use serial::Reason;
 use serial::Receiver;
 
@@ -20,6 +20,30 @@ pub enum Lines {
     Done(usize),
     ShortOutput,
     Inconsistent,
+}
+
+impl Lines {
+    // The number of the answer (document 01, 'Numbers given back').
+    pub fn number(self) -> u32
+        ensures { λ r. ⌜ r ≡ linesAnswer self .number ⌝ }
+    {
+        match self {
+            Lines::Done(_) => 0,
+            Lines::ShortOutput => 2,
+            Lines::Inconsistent => 9,
+        }
+    }
+
+    // The value that comes with it; 0 where there is none.
+    pub fn value(self) -> usize
+        ensures { λ r. ⌜ r ≡ valueOf (linesAnswer self) ⌝ }
+    {
+        match self {
+            Lines::Done(n) => n,
+            Lines::ShortOutput => 0,
+            Lines::Inconsistent => 0,
+        }
+    }
 }
 
 // The answer, how many packets were listed, and the state after it.
@@ -47,18 +71,6 @@ struct Turn {
     state: Receiver,
 }
 
-// No packet was handed out.
-fn no_packet(taken: usize, used: usize, state: Receiver) -> Turn
-    ensures { λ r. ⌜ r ≡ record { taken = taken; used = used; packets = 0; state = state } ⌝ }
-{
-    Turn {
-        taken,
-        used,
-        packets: 0,
-        state,
-    }
-}
-
 // Calls the taker once, from a consistent state, and puts the line of a packet that it hands out behind the `used` bytes of the output.
 fn list_next(receiver: Receiver, input: &[u8], out: &mut [u8], used: usize) -> Turn
     requires { ⌜ (consistentOf receiver ≡ true) × (used + length (linesOf (heard receiver (now input))) ≤ length (now out)) ⌝ }
@@ -68,24 +80,24 @@ fn list_next(receiver: Receiver, input: &[u8], out: &mut [u8], used: usize) -> T
     ensures { λ r. ⌜ r .state ≡ nextTaken receiver (now (input .entry)) .state ⌝ }
     ensures { λ _. ⌜ now (out .exit) ≡ putAt used (linesOf (nextHeard receiver (now (input .entry)))) (now (out .entry)) ⌝ }
 {
-    let mut packet = [0u8; 255];
+    let mut packet = [0u8; PACKET_MOST];
     let t = receiver.take(input, input.len(), &mut packet);
     let reason = t.reason;
     let state = t.state;
-    match reason {
-        Reason::Packet(n) => {
-            let end = put_line(&packet[..n], out, used);
-            Turn {
-                taken: t.taken,
-                used: end,
-                packets: 1,
-                state,
-            }
-        }
-        Reason::InputEnded => no_packet(t.taken, used, state),
-        Reason::AllowanceSpent => no_packet(t.taken, used, state),
-        Reason::ShortOutput => no_packet(t.taken, used, state),
-        Reason::Inconsistent => no_packet(t.taken, used, state),
+    if let Reason::Packet(n) = reason {
+        let end = text::put_line(&packet[..n], out, used);
+        return Turn {
+            taken: t.taken,
+            used: end,
+            packets: 1,
+            state,
+        };
+    }
+    Turn {
+        taken: t.taken,
+        used,
+        packets: 0,
+        state,
     }
 }
 

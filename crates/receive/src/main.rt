@@ -147,7 +147,7 @@ fn refused(line: Line) -> Line
 // The closing line.
 fn close(bytes: u64, packets: u64) {
     let mut text = [0u8; 64];
-    let size = listing::closing(bytes, packets, &mut text);
+    let size = listing::closing_line(bytes, packets, &mut text);
     let is_written = io::write_all(STDOUT_FILENO, &text[..size]);
     if !is_written {
         os::fail(b"receive: standard output");

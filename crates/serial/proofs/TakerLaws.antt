@@ -81,7 +81,7 @@ fair-step b s c =
     (fair-row (s .position) b s (facts s (c .fits) .count-most))
 
 -- so a packet that the taker hands out has at most 255 bytes
-abbrev Few : Reason → Type 0
+abbrev pub Few : Reason → Type 0
 Few (PacketTaken n) = n ≤ 255
 Few InputEnded = Unit {0}
 Few AllowanceSpent = Unit {0}

@@ -6,6 +6,7 @@ mod taker;
 pub use receiver::Outcome;
 pub use receiver::Position;
 pub use receiver::Receiver;
+pub use receiver::STORED_SIZE;
 pub use receiver::Stepped;
 pub use taker::Reason;
 pub use taker::Taken;

@@ -1,0 +1,67 @@
+-- Laws of `putEnd` and `putText`: where the text fits they are the place behind it and a put; the output keeps its length; and puts that follow one
+-- another are one put of all their bytes. Assumes nothing.
+use Prim.Native.Nat.{ℕ, _+_, _≤_, _<_}
+use mathlib.Core.Path.{_≡_, _∙_, ap, ap₂, refl, sym}
+use mathlib.Core.Bool.{Bool, true, false}
+use mathlib.Core.List.{List, _++_}
+use native.Mathlib.Omega.{arith}
+use lib.ListN.{length, length-append}
+use borrow.Author.Tests.{le-leb, leb-true, lt-leb}
+use Rattle.checks.specs.Output.{atStart, putAt}
+use Rattle.checks.proofs.Output.{length-put, length-start, put-put}
+use Rattle.io.specs.Counts.{Counts}
+use Rattle.io.proofs.Counting.{counts}
+use Rattle.text.specs.Put.{fits, putEnd, putText}
+
+-- where it fits
+pub with-room : (place : ℕ) (text out : List ℕ) → place + length text ≤ length out
+    → (putEnd place text (length out) ≡ place + length text) × (putText place text out ≡ putAt place text out)
+unfolding putEnd putText
+with-room place text out h = let e = le-leb (place + length text) (length out) h in (simp e, simp e)
+
+-- and where it does not
+pub without-room : (place : ℕ) (text out : List ℕ) → length out < place + length text
+    → (putEnd place text (length out) ≡ length out) × (putText place text out ≡ out)
+unfolding putEnd putText
+without-room place text out h = let e = lt-leb (place + length text) (length out) h in (simp e, simp e)
+
+-- the output keeps its length
+pub length-put-text : (place : ℕ) (text out : List ℕ) → length (putText place text out) ≡ length out
+unfolding putText
+length-put-text place text out = go (fits place text (length out)) refl
+  where
+    go : (t : Bool) → fits place text (length out) ≡ t → length (putText place text out) ≡ length out
+    go true e = simp e (length-put place text out (leb-true _ _ e))
+    go false e = simp e
+
+-- what a function that puts a text says: the place behind it, the output, and that the place lies within it
+abbrev pub Puts : ℕ → List ℕ → List ℕ → ℕ → List ℕ → Type 0
+Puts place text out end after = (end ≡ putEnd place text (length out)) × ((after ≡ putText place text out) × Counts end after)
+
+pub all-put : (place : ℕ) (text out : List ℕ) (end : ℕ) (after : List ℕ) → fits place text (length out) ≡ true
+    → end ≡ place + length text → after ≡ putAt place text out → Puts place text out end after
+all-put place text out end after e there put =
+    let h = leb-true (place + length text) (length out) e in
+    let same = with-room place text out h in
+    (there ∙ sym (same .0), (put ∙ sym (same .1), counts end after (omega (arith, ap length put, length-put place text out h))))
+
+pub none-put : (place : ℕ) (text out : List ℕ) → fits place text (length out) ≡ false → Puts place text out (length out) out
+unfolding putEnd putText
+none-put place text out e = (simp e, (simp e, counts (length out) out (omega arith)))
+
+-- ---- puts that follow one another
+
+-- a place and an output are those behind bytes at the output's start
+abbrev pub Behind : List ℕ → List ℕ → ℕ → List ℕ → Type 0
+Behind bytes out place after = (place ≡ length bytes) × (after ≡ atStart bytes out)
+
+-- one put more
+pub then-put : (bytes text out before after : List ℕ) (place next : ℕ) → length bytes + length text ≤ length out → Behind bytes out place before
+    → next ≡ putEnd place text (length before) → after ≡ putText place text before → Behind (bytes ++ text) out next after
+then-put bytes text out before after place next room b en ea =
+    let sized : length before ≡ length out = ap length (b .1) ∙ length-start bytes out (omega arith) in
+    let same = with-room place text before (omega (arith, b .0, sized)) in
+    let there : place ≡ 0 + length bytes = omega (arith, b .0) in (
+      omega (arith, en, same .0, b .0, length-append bytes text),
+      ea ∙ same .1 ∙ ap₂ (λ (n : ℕ) (d : List ℕ). putAt n text d) there (b .1) ∙ put-put 0 bytes text out (omega arith),
+    )

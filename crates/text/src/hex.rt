@@ -1,0 +1,104 @@
+// Hex, out and in: lower case, two digits for each byte.
+ghost use Prim.Native.Nat.{_+_, _≤_, _/_};
+ghost use mathlib.Core.Path.{_≡_};
+ghost use mathlib.Core.Bool.{true};
+ghost use lib.ListN.{length};
+ghost use Rattle.checks.specs.Output.{atStart, putAt};
+ghost use Rattle.io.specs.Counts.{Counts};
+ghost use Rattle.text.specs.Hex.{hexAll, hexOf, lineOf};
+ghost use Rattle.text.specs.Put.{putEnd, putText};
+ghost use Rattle.text.specs.Read.{allDigits, hexBytes, hexOutput, hexRead};
+use crate::digits::all_digits;
+use crate::digits::digit;
+use crate::digits::digit_value;
+use crate::plain::has_room;
+
+const LINE_FEED: u8 = 0x0a;
+
+// Whether a text was read, and how many bytes it has; 0 where it was not.
+pub struct HexRead {
+    pub ok: bool,
+    pub count: usize,
+}
+
+// A byte's two digits from `place` on.
+fn put_byte(b: u8, out: &mut [u8], place: usize)
+    requires { ⌜ place + 2 ≤ length (now out) ⌝ }
+    ensures { λ _. ⌜ now (out .exit) ≡ putAt place (hexOf b) (now (out .entry)) ⌝ }
+{
+    out[place] = digit(b / 16);
+    out[place + 1] = digit(b % 16);
+}
+
+// The digits of bytes that have their room. It returns the place behind them.
+fn put_digits(bytes: &[u8], out: &mut [u8], start: usize) -> usize
+    requires { ⌜ start + length (hexAll (now bytes)) ≤ length (now out) ⌝ }
+    ensures { λ r. ⌜ r ≡ start + length (hexAll (now (bytes .entry))) ⌝ }
+    ensures { λ _. ⌜ now (out .exit) ≡ putAt start (hexAll (now (bytes .entry))) (now (out .entry)) ⌝ }
+{
+    let mut place = start;
+    let mut i = 0;
+    while i < bytes.len() {
+        put_byte(bytes[i], out, place);
+        place += 2;
+        i += 1;
+    }
+    place
+}
+
+// Puts the bytes as hex.
+pub fn put_hex(bytes: &[u8], out: &mut [u8], place: usize) -> usize
+    ensures { λ r. ⌜ r ≡ putEnd place (hexAll (now (bytes .entry))) (length (now (out .entry))) ⌝ }
+    ensures { λ _. ⌜ now (out .exit) ≡ putText place (hexAll (now (bytes .entry))) (now (out .entry)) ⌝ }
+    ensures { λ r. ⌜ Counts r (now (out .exit)) ⌝ }
+{
+    if has_room(place, 2 * bytes.len(), out.len()) {
+        return put_digits(bytes, out, place);
+    }
+    out.len()
+}
+
+// Puts the bytes as hex, and a line feed behind it.
+pub fn put_line(bytes: &[u8], out: &mut [u8], place: usize) -> usize
+    ensures { λ r. ⌜ r ≡ putEnd place (lineOf (now (bytes .entry))) (length (now (out .entry))) ⌝ }
+    ensures { λ _. ⌜ now (out .exit) ≡ putText place (lineOf (now (bytes .entry))) (now (out .entry)) ⌝ }
+    ensures { λ r. ⌜ Counts r (now (out .exit)) ⌝ }
+{
+    if has_room(place, 2 * bytes.len() + 1, out.len()) {
+        let end = put_digits(bytes, out, place);
+        out[end] = LINE_FEED;
+        return end + 1;
+    }
+    out.len()
+}
+
+// The bytes of a text of hex digits, put at the start of an output that has their room.
+fn put_values(text: &[u8], out: &mut [u8])
+    requires { ⌜ (allDigits 16 (now text) ≡ true) × (length (now text) / 2 ≤ length (now out)) ⌝ }
+    ensures { λ _. ⌜ now (out .exit) ≡ atStart (hexBytes (now (text .entry))) (now (out .entry)) ⌝ }
+{
+    let count = text.len() / 2;
+    let mut i = 0;
+    while i < count {
+        out[i] = digit_value(text[2 * i]) * 16 + digit_value(text[2 * i + 1]);
+        i += 1;
+    }
+}
+
+// Reads a hex text: an even number of lower-case hex digits, also none. Its bytes are put at the output's start, and `count` says how many they are. Any
+// other text, and one whose bytes do not fit, is refused: not ok, a count of 0, and nothing is written.
+pub fn read_hex(text: &[u8], out: &mut [u8]) -> HexRead
+    ensures { λ r. ⌜ r ≡ hexRead (now (text .entry)) (length (now (out .entry))) ⌝ }
+    ensures { λ _. ⌜ now (out .exit) ≡ hexOutput (now (text .entry)) (now (out .entry)) ⌝ }
+    ensures { λ r. ⌜ Counts (r .count) (now (out .exit)) ⌝ }
+{
+    let count = text.len() / 2;
+    if (text.len() % 2 == 0) & all_digits(16, text) & (count <= out.len()) {
+        put_values(text, out);
+        return HexRead { ok: true, count };
+    }
+    HexRead {
+        ok: false,
+        count: 0,
+    }
+}
