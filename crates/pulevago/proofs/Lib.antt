@@ -1,4 +1,3 @@
-pub mod Said
-pub mod InBuffer
-pub mod StateLaws
+pub mod Lent
+pub mod Answers
 pub mod OneResult

@@ -1,4 +1,2 @@
 pub mod Lent
-pub mod State
 pub mod Calls
-pub mod Laws

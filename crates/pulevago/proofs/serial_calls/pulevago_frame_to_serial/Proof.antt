@@ -1,76 +1,66 @@
--- `pulevago_frame_to_serial` meets its contract: each arm gives the number and the length of the answer that the writer told, and leaves the output that the
--- writer left. Assumes nothing.
-use mathlib.Core.Path.{_∙_, ap, refl}
+-- `pulevago_frame_to_serial` meets its contract: number and value are those of the writer's answer, and the output is left by its number. Assumes nothing.
+use mathlib.Core.Path.{_∙_}
 use borrow.Author.Needs.{needs}
 use denote.Ref.{now}
-use Rattle.checks.specs.Numbers.{firstOf}
-use Rattle.checks.proofs.Numbers.{matched}
-use Rattle.framing.specs.declared.frame.Written.{Written}
-use Rattle.framing.specs.Writer.{writtenAnswer}
-use Rattle.framing.specs.Writer.{outputOf}
-use Rattle.pulevago.proofs.Said.{number-said, values-said}
+use Rattle.serial.specs.Answers.{writtenAnswer}
+use Rattle.pulevago.proofs.Answers.{frame-left}
+use Rattle.pulevago.proofs.Lent.{given-refused, number-given, output-given, value-given}
 use Rattle.pulevago.proofs.serial_calls.pulevago_frame_to_serial.Statement.{statement}
 use Rattle.pulevago.proofs.serial_calls.pulevago_frame_to_serial.Tie as tie
 
 frame-to-serial-requires : tie.Need-frame-to-serial-requires
 frame-to-serial-requires c κs = search needs
 
-enum-known-n : tie.Need-enum-known-n
-enum-known-n c = search needs
+number-requires : tie.Need-number-requires
+number-requires c κs = search needs
 
-enum-told : tie.Need-enum-told
-enum-told c = search needs
-
-enum-told-2 : tie.Need-enum-told-2
-enum-told-2 c = search needs
+value-requires : tie.Need-value-requires
+value-requires c κs = search needs
 
 same-length : tie.Need-same-length
 same-length c = search needs
 
 returns : tie.Need-returns
-unfolding outputOf
 returns c =
-    let l = c .before in
-    let e = l .before .before .before .before .frame-to-serial .ensures in
-    let a = l .before .before .before .before .before .before .before .before .args in
-    let m = matched writtenAnswer (e .0) (l .n .given .1) in (
-      number-said m,
-      (e .1 ∙ ap (λ (r : Written). outputOf r (now (a .packet)) (now (a .out))) (l .n .given .1), values-said m firstOf),
+    let n = c .before .before in
+    let k = n .before .before .before in
+    let a = k .before .before .before .before .args in
+    let r = k .frame-to-serial .result in
+    let e = k .frame-to-serial .ensures in
+    let t = n .number .ensures in (
+      number-given (writtenAnswer r) _ _ t (e .0),
+      (
+        output-given (writtenAnswer r) _ _ t (e .0) _ _ _ (e .1 ∙ frame-left r (now (a .packet)) (now (a .out))),
+        value-given (writtenAnswer r) _ _ t (e .0) _ _ (c .before .if1 .taken) (c .value .ensures),
+      ),
     )
 
 same-length-2 : tie.Need-same-length-2
 same-length-2 c = search needs
 
 returns-2 : tie.Need-returns-2
-unfolding outputOf
 returns-2 c =
-    let e = c .before .before .before .before .frame-to-serial .ensures in
-    let a = c .before .before .before .before .before .before .before .before .args in
-    let told = c .enum-told .given .1 in
-    (number-said (matched writtenAnswer (e .0) told), (e .1 ∙ ap (λ (r : Written). outputOf r (now (a .packet)) (now (a .out))) told, refl))
-
-same-length-3 : tie.Need-same-length-3
-same-length-3 c = search needs
-
-returns-3 : tie.Need-returns-3
-unfolding outputOf
-returns-3 c =
-    let e = c .before .before .before .before .frame-to-serial .ensures in
-    let a = c .before .before .before .before .before .before .before .before .args in
-    let told = c .enum-told2 .given .1 in
-    (number-said (matched writtenAnswer (e .0) told), (e .1 ∙ ap (λ (r : Written). outputOf r (now (a .packet)) (now (a .out))) told, refl))
+    let n = c .before in
+    let k = n .before .before .before in
+    let a = k .before .before .before .before .args in
+    let r = k .frame-to-serial .result in
+    let e = k .frame-to-serial .ensures in
+    let t = n .number .ensures in (
+      number-given (writtenAnswer r) _ _ t (e .0),
+      (
+        output-given (writtenAnswer r) _ _ t (e .0) _ _ _ (e .1 ∙ frame-left r (now (a .packet)) (now (a .out))),
+        given-refused _ _ _ (c .if1 .left),
+      ),
+    )
 
 pub pulevago-frame-to-serial-spec : {M : Type 1} → statement M
 pulevago-frame-to-serial-spec =
     tie.close
     (tie.spec
     frame-to-serial-requires
-    enum-known-n
-    enum-told
-    enum-told-2
+    number-requires
+    value-requires
     same-length
     returns
     same-length-2
-    returns-2
-    same-length-3
-    returns-3)
+    returns-2)

@@ -1,46 +1,32 @@
--- `pulevago_usb_header` meets its contract: each arm gives the number of the answer that `header` told, and leaves the output that it left. Assumes nothing.
-use mathlib.Core.Path.{_∙_, ap}
+-- `pulevago_usb_header` meets its contract: the number is that of the answer of `header`, and the output is left by it. Assumes nothing.
+use mathlib.Core.Path.{_∙_}
 use borrow.Author.Needs.{needs}
 use denote.Ref.{now}
-use Rattle.checks.proofs.Numbers.{matched}
-use Rattle.usb.specs.declared.head.Headed.{Headed}
-use Rattle.usb.specs.Header.{headedAnswer, headerOutput}
-use Rattle.pulevago.proofs.Said.{number-said}
+use Rattle.usb.specs.Header.{headedAnswer}
+use Rattle.pulevago.proofs.Answers.{header-left}
+use Rattle.pulevago.proofs.Lent.{number-given, output-given}
 use Rattle.pulevago.proofs.usb_calls.pulevago_usb_header.Statement.{statement}
 use Rattle.pulevago.proofs.usb_calls.pulevago_usb_header.Tie as tie
 
 header-requires : tie.Need-header-requires
 header-requires c κs = search needs
 
-enum-told : tie.Need-enum-told
-enum-told c = search needs
-
-enum-told-2 : tie.Need-enum-told-2
-enum-told-2 c = search needs
+number-requires : tie.Need-number-requires
+number-requires c κs = search needs
 
 same-length : tie.Need-same-length
 same-length c = search needs
 
 returns : tie.Need-returns
-unfolding headerOutput
 returns c =
-    let e = c .before .before .before .before .header .ensures in
-    let a = c .before .before .before .before .before .before .before .args in
-    let told = c .enum-told .given .1 in
-    (number-said (matched headedAnswer (e .0) told), e .1 ∙ ap (λ (r : Headed). headerOutput r (a .size) (now (a .out))) told)
-
-same-length-2 : tie.Need-same-length-2
-same-length-2 c = search needs
-
-returns-2 : tie.Need-returns-2
-unfolding headerOutput
-returns-2 c =
-    let e = c .before .before .before .before .header .ensures in
-    let a = c .before .before .before .before .before .before .before .args in
-    let told = c .enum-told2 .given .1 in
-    (number-said (matched headedAnswer (e .0) told), e .1 ∙ ap (λ (r : Headed). headerOutput r (a .size) (now (a .out))) told)
+    let k = c .before .before .before in
+    let a = k .before .before .before .args in
+    let r = k .header .result in
+    let e = k .header .ensures in
+    let t = c .number .ensures in (
+      number-given (headedAnswer r) _ _ t (e .0),
+      output-given (headedAnswer r) _ _ t (e .0) _ _ _ (e .1 ∙ header-left r (a .size) (now (a .out))),
+    )
 
 pub pulevago-usb-header-spec : {M : Type 1} → statement M
-pulevago-usb-header-spec =
-    tie.close
-    (tie.spec header-requires enum-told enum-told-2 same-length returns same-length-2 returns-2)
+pulevago-usb-header-spec = tie.close (tie.spec header-requires number-requires same-length returns)

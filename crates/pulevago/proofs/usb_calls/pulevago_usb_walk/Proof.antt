@@ -1,89 +1,147 @@
--- `pulevago_usb_walk` meets its contract: each arm gives what the answer of `walk_at` names, and a packet that was found lies within the transfer. Assumes
--- nothing.
-use Prim.Native.Nat.{ℕ}
-use mathlib.Core.Path.{_≡_, refl}
-use mathlib.Core.List.{List}
+-- `pulevago_usb_walk` meets its contract: it gives what the answer of `walk_at` names, a packet or the end, and a packet that was found lies within the
+-- transfer. Assumes nothing.
+use Prim.Native.Nat.{ℕ, _+_, _≤_}
+use mathlib.Core.Path.{_≡_, _∙_, ap, refl, sym}
+use mathlib.Core.List.{List, [], _∷_}
 use native.Mathlib.Omega.{arith}
 use lib.ListN.{length}
 use borrow.Author.Needs.{needs}
 use denote.Ref.{now}
-use Rattle.checks.specs.Numbers.{Answer, answer, done}
-use Rattle.checks.proofs.Numbers.{matched}
+use Rattle.checks.specs.Numbers.{Answer, answer, done, firstOf, valueOf}
+use Rattle.transfer.specs.declared.walker.Walked.{Walked}
 use Rattle.usb.specs.Decode.{packetAt}
-use Rattle.transfer.specs.Walk.{placeBehind, walkedAnswer}
-use Rattle.transfer.proofs.WalkLaws.{walked-inside}
-use Rattle.pulevago.proofs.Said.{number-said, values-said}
+use Rattle.transfer.specs.Walk.{placeBehind, walkAnswer, walkedAnswer}
+use Rattle.usb.proofs.DecodeLaws.{found}
+use Rattle.pulevago.proofs.Answers.{most-found, none-found, one-found, refused-none}
+use Rattle.pulevago.proofs.Lent.{given-done, given-refused, number-given}
 use Rattle.pulevago.proofs.usb_calls.pulevago_usb_walk.Statement.{statement}
 use Rattle.pulevago.proofs.usb_calls.pulevago_usb_walk.Tie as tie
 
--- where the answer is done: what its values give, the place behind, how many packets there are, and where
-given : {a : Answer} {values : List ℕ} → a ≡ answer done values → (at : ℕ)
-    → (done ≡ a .number) × ((placeBehind at values ≡ placeBehind at (a .values)) × ((length values ≡ length (a .values))
-    × ((packetAt at values .place ≡ packetAt at (a .values) .place) × (packetAt at values .size ≡ packetAt at (a .values) .size))))
-given m at = (
-  number-said m,
-  (
-    values-said m (placeBehind at),
-    (values-said m length, (values-said m (λ (v : List ℕ). packetAt at v .place), values-said m (λ (v : List ℕ). packetAt at v .size))),
-  ),
-)
+-- the answer where no packet was found, and where one was
+ended : (c : tie.Then2)
+    → walkAnswer (now (c .before .before .before .before .before .before .before .before .args .transfer)) (now (c .before .before .before .before .before .before .before .before .args .at)) ≡ answer done []
+ended c =
+    let f = c .before .before in
+    let n = f .before .before in
+    let k = n .before in
+    sym (k .walk-at .ensures) ∙ none-found (k .walk-at .result) (sym (n .number .ensures) ∙ f .before .if1 .taken) (sym (f .found .ensures) ∙ c .if2 .taken)
+
+met : (c : tie.Else2)
+    → walkAnswer (now (c .before .before .before .before .before .before .before .before .args .transfer)) (now (c .before .before .before .before .before .before .before .before .args .at)) ≡ answer done (c .before .value .result ∷ [])
+met c =
+    let f = c .before .before in
+    let n = f .before .before in
+    let k = n .before in
+    sym (k .walk-at .ensures)
+    ∙ one-found (k .walk-at .result) (sym (n .number .ensures) ∙ f .before .if1 .taken) (λ e. c .if2 .left (f .found .ensures ∙ e))
+    ∙ ap (λ (size : ℕ). answer done (size ∷ [])) (sym (c .before .value .ensures))
+
+inside : (c : tie.Else2)
+    → now (c .before .before .before .before .before .before .before .before .args .at) + (4 + c .before .value .result) ≤ length (now (c .before .before .before .before .before .before .before .before .args .transfer))
+inside c = found _ _ _ (met c) .inside
+
+-- the size of a part is the value
+size-at : (at : ℕ) (vs : List ℕ) → firstOf vs ≡ packetAt at vs .size
+size-at at [] = refl
+size-at at (n ∷ ns) = refl
+
+-- a refusal has no packet, so the place stays
+stays : (r : Walked) (transfer : List ℕ) (at number : ℕ) → walkedAnswer r ≡ walkAnswer transfer at → walkedAnswer r .number ≡ number → (number ≡ done → ⊥)
+    → at ≡ placeBehind at (walkAnswer transfer at .values)
+stays r transfer at number e told h =
+    ap (placeBehind at) (sym (refused-none r (λ d. h (sym told ∙ d)))) ∙ ap (λ (x : Answer). placeBehind at (x .values)) e
 
 walk-at-requires : tie.Need-walk-at-requires
 walk-at-requires c κs = search needs
 
-enum-known-n : tie.Need-enum-known-n
-enum-known-n c = search needs
+number-requires : tie.Need-number-requires
+number-requires c κs = search needs
 
-add-place : tie.Need-add-place
-add-place c =
-    let l = c .before in
-    omega (arith, walked-inside _ _ _ _ (l .before .before .walk-at .ensures) (l .n .given .1))
+found-requires : tie.Need-found-requires
+found-requires c κs = search needs
 
-add-at : tie.Need-add-at
-add-at c =
-    let l = c .before in
-    omega (arith, walked-inside _ _ _ _ (l .before .before .walk-at .ensures) (l .n .given .1))
+value-requires : tie.Need-value-requires
+value-requires c κs = search needs
 
-add-at-2 : tie.Need-add-at-2
-add-at-2 c =
-    let l = c .before in
-    omega (arith, walked-inside _ _ _ _ (l .before .before .walk-at .ensures) (l .n .given .1))
-
-enum-told : tie.Need-enum-told
-enum-told c = search needs
-
-enum-told-2 : tie.Need-enum-told-2
-enum-told-2 c = search needs
+cast-found : tie.Need-cast-found
+cast-found c = omega (arith, most-found (c .before .before .before .before .walk-at .result), c .before .found .ensures)
 
 returns : tie.Need-returns
 returns c =
-    let l = c .before in
-    let at = now (l .before .before .before .before .before .args .at) in
-    let m = matched walkedAnswer (l .before .before .walk-at .ensures) (l .n .given .1) in
-    given m at
+    let v = c .before in
+    let t = v .before .before in
+    let n = t .before in
+    let k = n .before in
+    let a = k .before .before .before .args in
+    let transfer = now (a .transfer) in
+    let at = now (a .at) in
+    let values = ap (λ (x : Answer). x .values) (sym (ended c)) in
+    let is-done = t .if1 .taken in (
+      number-given (walkedAnswer (k .walk-at .result)) _ _ (n .number .ensures) (k .walk-at .ensures),
+      (
+        ap (placeBehind at) values,
+        (
+          v .before .found .ensures ∙ ap (λ (x : Answer). length (x .values)) (k .walk-at .ensures) ∙ given-done _ _ _ is-done,
+          (
+            ap (λ (vs : List ℕ). packetAt at vs .place) values ∙ given-done _ _ _ is-done,
+            v .value .ensures ∙ ap valueOf (k .walk-at .ensures) ∙ size-at at (walkAnswer transfer at .values) ∙ given-done _ _ _ is-done,
+          ),
+        ),
+      ),
+    )
+
+add-place : tie.Need-add-place
+add-place c = omega (arith, inside c)
+
+add-at : tie.Need-add-at
+add-at c = omega (arith, inside c)
+
+add-at-2 : tie.Need-add-at-2
+add-at-2 c = omega (arith, inside c)
 
 returns-2 : tie.Need-returns-2
 returns-2 c =
-    let at = now (c .before .before .before .before .before .args .at) in
-    given (matched walkedAnswer (c .before .before .walk-at .ensures) (c .enum-told .given .1)) at
+    let v = c .before in
+    let t = v .before .before in
+    let n = t .before in
+    let k = n .before in
+    let at = now (k .before .before .before .args .at) in
+    let values = ap (λ (x : Answer). x .values) (sym (met c)) in
+    let is-done = t .if1 .taken in (
+      number-given (walkedAnswer (k .walk-at .result)) _ _ (n .number .ensures) (k .walk-at .ensures),
+      (
+        ap (placeBehind at) values,
+        (
+          v .before .found .ensures ∙ ap (λ (x : Answer). length (x .values)) (k .walk-at .ensures) ∙ given-done _ _ _ is-done,
+          (
+            ap (λ (vs : List ℕ). packetAt at vs .place) values ∙ given-done _ _ _ is-done,
+            ap (λ (vs : List ℕ). packetAt at vs .size) values ∙ given-done _ _ _ is-done,
+          ),
+        ),
+      ),
+    )
 
 returns-3 : tie.Need-returns-3
 returns-3 c =
-    let at = now (c .before .before .before .before .before .args .at) in
-    let m = matched walkedAnswer (c .before .before .walk-at .ensures) (c .enum-told2 .given .1) in
-    (number-said m, (values-said m (placeBehind at), (refl, (refl, refl))))
+    let n = c .before in
+    let k = n .before in
+    let h = c .if1 .left in (
+      number-given (walkedAnswer (k .walk-at .result)) _ _ (n .number .ensures) (k .walk-at .ensures),
+      (stays (k .walk-at .result) _ _ _ (k .walk-at .ensures) (sym (n .number .ensures)) h, (given-refused _ _ _ h, (given-refused _ _ _ h, given-refused _ _ _ h))),
+    )
 
 pub pulevago-usb-walk-spec : {M : Type 1} → statement M
 pulevago-usb-walk-spec =
     tie.close
     (tie.spec
     walk-at-requires
-    enum-known-n
+    number-requires
+    found-requires
+    value-requires
+    cast-found
+    returns
     add-place
     add-at
     add-at-2
-    enum-told
-    enum-told-2
-    returns
     returns-2
     returns-3)

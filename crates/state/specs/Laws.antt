@@ -4,16 +4,16 @@ use Prim.Native.Nat.{ℕ, _<_}
 use mathlib.Core.Path.{_≡_}
 use mathlib.Core.Bool.{true, false}
 use mathlib.Core.List.{List, [], _∷_}
-use lib.ListN.{replicate}
+use lib.ListN.{length, replicate}
 use Rattle.checks.specs.Laws.{Bytes}
 use Rattle.checks.specs.Numbers.{answer, inconsistent, shortOutput}
 use Rattle.checks.specs.Part.{bytesOf}
 use Rattle.serial.specs.declared.receiver.Receiver.{Receiver}
 use Rattle.serial.specs.Consistency.{Consistent}
-use Rattle.serial.specs.Receiver.{freshOf, stepOf}
+use Rattle.serial.specs.Receiver.{consistentOf, freshOf, stepOf, storedSize}
 use Rattle.serial.specs.Run.{packetIn, runOf}
-use Rattle.pulevago.specs.Calls.{handedPart, holdsState, stepAnswerIn, stepLeaves, stepsLeave, takeAnswerIn, takeLeaves, takenIn}
-use Rattle.pulevago.specs.State.{loaded, sized, stateBytes}
+use Rattle.state.specs.InBuffer.{handedPart, holdsState, stepAnswerIn, stepLeaves, stepsLeave, takeAnswerIn, takeLeaves, takenIn}
+use Rattle.state.specs.State.{left, loaded, sized, stateBytes, stateSize}
 
 -- stored, and loaded again: the same state, and a buffer of it holds one
 abbrev pub StoredLoaded : Type 0
@@ -25,7 +25,7 @@ LoadedStored = (bytes : List ℕ) → Bytes bytes → holdsState bytes ≡ true 
 
 -- a fresh state is 263 zeros
 abbrev pub FreshZeros : Type 0
-FreshZeros = stateBytes freshOf ≡ replicate 263 0
+FreshZeros = stateBytes freshOf ≡ replicate stateSize 0
 
 -- bytes of a state's size that hold none: number 9, from a step and from the taker, and fresh bytes after it
 abbrev pub NoState : Type 0
@@ -50,8 +50,8 @@ LeavesState = (bytes : List ℕ) → sized bytes ≡ true
 -- and it is the state that the receiver's own functions hand back, so a receiver may be kept as bytes between any two calls
 abbrev pub GoesOn : Type 0
 GoesOn = (bytes : List ℕ) → sized bytes ≡ true
-    → ((b : ℕ) → loaded (stepLeaves b bytes) ≡ stepOf b (loaded bytes) .state)
-    × ((input : List ℕ) (allowance room : ℕ)
+    → ((b : ℕ) → b < 256 → loaded (stepLeaves b bytes) ≡ stepOf b (loaded bytes) .state)
+    × ((input : List ℕ) (allowance room : ℕ) → Bytes input
     → loaded (takeLeaves input allowance room bytes) ≡ takenIn input allowance room bytes .state)
 
 -- so bytes fed one by one leave the bytes of the state that the definition's run over them comes to: what is proved of runs, demand 3 too, holds of a
@@ -68,3 +68,7 @@ ShortKept = (input bytes : List ℕ) (allowance room : ℕ) → Bytes bytes
 abbrev pub HandedThere : Type 0
 HandedThere = (bytes : List ℕ) (b n : ℕ) → sized bytes ≡ true → stepAnswerIn b bytes .values ≡ n ∷ []
     → bytesOf (handedPart (stepAnswerIn b bytes .values)) (stepLeaves b bytes) ≡ packetIn n (stepOf b (loaded bytes) .state)
+
+-- whatever state is stored in a buffer of a state's size, the buffer then holds a state exactly where that one is consistent
+abbrev pub StoredTells : Type 0
+StoredTells = (bytes : List ℕ) (s : Receiver) → sized bytes ≡ true → length (s .stored) ≡ storedSize → holdsState (left bytes s) ≡ consistentOf s

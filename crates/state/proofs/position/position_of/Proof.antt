@@ -4,10 +4,10 @@ use Prim.Native.Nat.{ℕ, zero, suc}
 use mathlib.Core.Path.{_≡_, refl}
 use lib.ListN.{getD}
 use Rattle.serial.specs.declared.receiver.Position.the-variants.{FrameEnd}
-use Rattle.pulevago.specs.State.{positions}
+use Rattle.serial.specs.Receiver.{positions}
 use borrow.Author.Needs.{needs}
-use Rattle.pulevago.proofs.state.position_of.Statement.{statement}
-use Rattle.pulevago.proofs.state.position_of.Tie as tie
+use Rattle.state.proofs.position.position_of.Statement.{statement}
+use Rattle.state.proofs.position.position_of.Tie as tie
 
 -- a number that is none of those before: place 6, and behind the list
 last : (n : ℕ) → (n ≡ 0 → ⊥) → (n ≡ 1 → ⊥) → (n ≡ 2 → ⊥) → (n ≡ 3 → ⊥) → (n ≡ 4 → ⊥) → (n ≡ 5 → ⊥) → FrameEnd ≡ getD positions n FrameEnd
