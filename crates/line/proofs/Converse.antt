@@ -24,7 +24,7 @@ use Rattle.framing.specs.Computed.{ending}
 use Rattle.framing.specs.Frame.{flag, revision, escapedAll, covered, checkBytes, behindFlag, escaped, frame}
 use Rattle.serial.specs.Receiver.{agreesOf, freshOf, handsOut, rowOf, stepOf, consistentOf, fitsAt}
 use Rattle.serial.specs.Run.{emit, outsBy, outsOf, packetIn, runBy, runOf}
-use Rattle.line.specs.Converse.{AllAsSent, Each, OnlyAsSent, SentAs, StreamAsSent, FlagNotNeeded, flagless}
+use Rattle.line.specs.Converse.{AllAsSent, Each, OnlyAsSent, SentAs, SentAt, StreamAsSent, FlagNotNeeded, flagless}
 use Rattle.framing.proofs.FrameLaws.{frame-bytes}
 use Rattle.serial.proofs.Consistent.{FitsAt, facts, row-of}
 use Rattle.serial.proofs.Keeps.{reachable-consistent}
@@ -190,7 +190,7 @@ sent-from (b ∷ rest) h bytes =
     let place : take (length h + 1) stream ≡ h ++ (b ∷ []) = take-append-add h (b ∷ rest) 1 in
     let next : outsOf (length (h ++ (b ∷ []))) (runOf freshOf (h ++ (b ∷ []))) rest ≡ outsOf (length h + 1) (stepOf b s .state) rest =
     ap₂ (λ (i : ℕ) (r : Receiver). outsOf i r rest) (length-append h (b ∷ [])) (run-append freshOf h (b ∷ [])) in
-    emit-each (λ place packet. SentAs (take (place + 1) stream) packet) (stepOf b s .outcome) (stepOf b s .state) (length h) (outsOf (length h + 1) (stepOf b s .state) rest)
+    emit-each (SentAt stream) (stepOf b s .outcome) (stepOf b s .state) (length h) (outsOf (length h + 1) (stepOf b s .state) rest)
     (λ n e. subst (λ (l : List ℕ). SentAs l (packetIn n (stepOf b s .state))) (sym place)
     (only-as-sent h b n (bytes-front h (b ∷ rest) bytes) e))
     (subst₂ AllAsSent joined next (sent-from rest (h ++ (b ∷ [])) (subst Bytes (sym joined) bytes)))

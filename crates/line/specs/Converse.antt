@@ -46,9 +46,13 @@ abbrev pub Each : (ℕ → List ℕ → Type 0) → List (ℕ × List ℕ) → T
 Each so [] = Unit {0}
 Each so (o ∷ os) = so (o .0) (o .1) × Each so os
 
+-- a stream, up to and with a place, ends with a packet's frame
+abbrev pub SentAt : List ℕ → ℕ → List ℕ → Type 0
+SentAt stream place packet = SentAs (take (place + 1) stream) packet
+
 -- of a whole stream: each packet at its place
 abbrev pub AllAsSent : List ℕ → List (ℕ × List ℕ) → Type 0
-AllAsSent stream outs = Each (λ place packet. SentAs (take (place + 1) stream) packet) outs
+AllAsSent stream outs = Each (SentAt stream) outs
 
 abbrev pub StreamAsSent : Type 0
 StreamAsSent = (stream : List ℕ) → Bytes stream → AllAsSent stream (outsOf 0 freshOf stream)
