@@ -12,7 +12,7 @@ use Rattle.checks.specs.Output.{atStart}
 use Rattle.checks.proofs.Bytes.{bytes-take}
 use Rattle.framing.specs.declared.frame.Written.{Written}
 use Rattle.framing.specs.declared.frame.Written.the-variants.{Done as WrittenDone, BadLength, ShortOutput}
-use Rattle.serial.specs.Answers.{writtenAnswer}
+use Rattle.framing.specs.Writer.{writtenAnswer}
 use Rattle.framing.specs.Frame.{frame as serialFrame}
 use Rattle.framing.specs.Writer.{outputOf}
 use Rattle.i2c.specs.declared.decoder.Decoded.{Decoded as DecodedFrame}

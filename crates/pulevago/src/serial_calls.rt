@@ -5,7 +5,7 @@ ghost use lib.Dec.{eqb};
 ghost use lib.ListN.{length};
 ghost use Rattle.checks.specs.Numbers.{valueOf};
 ghost use Rattle.checks.specs.Output.{atStart};
-ghost use Rattle.serial.specs.Answers.{writerAnswer};
+ghost use Rattle.framing.specs.Writer.{writerAnswer};
 ghost use Rattle.framing.specs.Frame.{frame};
 ghost use Rattle.serial.specs.Receiver.{freshOf};
 ghost use Rattle.state.specs.InBuffer.{handedPart, packetPlace, stepAnswerIn, stepLeaves, takeAnswerIn, takeLeaves, takeOutput, takenIn};

@@ -2,7 +2,7 @@
 use mathlib.Core.Path.{_∙_}
 use borrow.Author.Needs.{needs}
 use denote.Ref.{now}
-use Rattle.serial.specs.Answers.{writtenAnswer}
+use Rattle.framing.specs.Writer.{writtenAnswer}
 use Rattle.pulevago.proofs.Answers.{frame-left}
 use Rattle.pulevago.proofs.Lent.{given-refused, number-given, output-given, value-given}
 use Rattle.pulevago.proofs.serial_calls.pulevago_frame_to_serial.Statement.{statement}

@@ -11,7 +11,7 @@ use Rattle.checks.specs.Numbers.{Answer, answer, done, firstOf, valueOf}
 use Rattle.transfer.specs.declared.walker.Walked.{Walked}
 use Rattle.usb.specs.Decode.{packetAt}
 use Rattle.transfer.specs.Walk.{placeBehind, walkAnswer, walkedAnswer}
-use Rattle.usb.proofs.DecodeLaws.{found}
+use Rattle.transfer.proofs.WalkLaws.{found}
 use Rattle.pulevago.proofs.Answers.{most-found, none-found, one-found, refused-none}
 use Rattle.pulevago.proofs.Lent.{given-done, given-refused, number-given}
 use Rattle.pulevago.proofs.usb_calls.pulevago_usb_walk.Statement.{statement}
@@ -62,9 +62,6 @@ found-requires c κs = search needs
 
 value-requires : tie.Need-value-requires
 value-requires c κs = search needs
-
-cast-found : tie.Need-cast-found
-cast-found c = omega (arith, most-found (c .before .before .before .before .walk-at .result), c .before .found .ensures)
 
 returns : tie.Need-returns
 returns c =
@@ -138,7 +135,6 @@ pulevago-usb-walk-spec =
     number-requires
     found-requires
     value-requires
-    cast-found
     returns
     add-place
     add-at
