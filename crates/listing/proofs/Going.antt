@@ -15,8 +15,9 @@ use Rattle.checks.proofs.Output.{length-put, put-none, put-put}
 use Rattle.serial.specs.declared.receiver.Receiver.{Receiver}
 use Rattle.serial.specs.Consistency.{Consistent}
 use Rattle.serial.specs.Run.{heard, outsBy, packetsOf, runBy, runOf}
+use Rattle.listing.specs.declared.lines.Turn.{Turn}
 use Rattle.listing.specs.Text.{linesOf}
-use Rattle.listing.specs.Turn.{nextHeard, nextTaken}
+use Rattle.listing.specs.Turn.{nextHeard, nextTaken, nextTurn}
 use Rattle.listing.proofs.Said.{Said}
 use Rattle.listing.proofs.TextLaws.{lines-append, lines-least}
 use Rattle.listing.proofs.TurnLaws.{next-heard, next-kept, next-run, next-some, next-within}
@@ -56,43 +57,58 @@ module _ {input out₀ : List ℕ} {s₀ : Receiver} {out : List ℕ} {s : Recei
   rest-fits = omega (arith, ap (λ (xs : List ℕ). length (linesOf (heard s xs))) lent, g .measured, g .sized, g .room)
 
   -- a call
-  module _ {taken end more : ℕ} {state : Receiver} {left : List ℕ}
-      (said : Said s (take (length input - place) (drop place input)) used out taken end more state left) where
-    of-rest : Said s (drop place input) used out taken end more state left
-    of-rest = subst (λ (xs : List ℕ). Said s xs used out taken end more state left) lent said
+  module _ {turn : Turn} {left : List ℕ} (said : Said s (take (length input - place) (drop place input)) used out turn left) where
+    of-rest : Said s (drop place input) used out turn left
+    of-rest = subst (λ (xs : List ℕ). Said s xs used out turn left) lent said
+
+    -- what the turn has
+    made : {A : Type 0} (part : Turn → A) → part turn ≡ part (nextTurn s (drop place input) used)
+    made part = ap part (of-rest .0)
+
+    taken-made : turn .taken ≡ nextTaken s (drop place input) .taken
+    taken-made = made (λ (t : Turn). t .taken)
+
+    state-made : turn .state ≡ nextTaken s (drop place input) .state
+    state-made = made (λ (t : Turn). t .state)
+
+    used-made : turn .used ≡ used + length (linesOf (nextHeard s (drop place input)))
+    used-made = made (λ (t : Turn). t .used)
+
+    packets-made : turn .packets ≡ length (nextHeard s (drop place input))
+    packets-made = made (λ (t : Turn). t .packets)
 
     first : List (List ℕ)
     first = nextHeard s (drop place input)
 
     later : List (List ℕ)
-    later = heard state (drop (place + taken) input)
+    later = heard (turn .state) (drop (place + turn .taken) input)
 
     -- behind the bytes taken
-    behind : drop (nextTaken s (drop place input) .taken) (drop place input) ≡ drop (place + taken) input
-    behind = ap (λ (n : ℕ). drop n (drop place input)) (sym (of-rest .0)) ∙ drop-drop taken place input
+    behind : drop (nextTaken s (drop place input) .taken) (drop place input) ≡ drop (place + turn .taken) input
+    behind = ap (λ (n : ℕ). drop n (drop place input)) (sym taken-made) ∙ drop-drop (turn .taken) place input
 
     goes-on : heard s (drop place input) ≡ first ++ later
     unfolding first later
     goes-on =
         next-heard s (drop place input) (g .fits)
-        ∙ ap₂ (λ (u : Receiver) (xs : List ℕ). nextHeard s (drop place input) ++ heard u xs) (sym (of-rest .1 .1 .1 .0)) behind
+        ∙ ap₂ (λ (u : Receiver) (xs : List ℕ). nextHeard s (drop place input) ++ heard u xs) (sym (state-made)) behind
 
     lines-go-on : linesOf (heard s (drop place input)) ≡ linesOf first ++ linesOf later
     lines-go-on = ap linesOf goes-on ∙ lines-append first later
 
-    pub taken-within : place + taken ≤ length input
-    taken-within = omega (arith, of-rest .0, next-within s (drop place input) (g .fits), length-drop place input, g .within)
+    pub taken-within : place + turn .taken ≤ length input
+    taken-within = omega (arith, taken-made, next-within s (drop place input) (g .fits), length-drop place input, g .within)
 
-    pub taken-some : place < length input → 1 ≤ taken
+    pub taken-some : place < length input → 1 ≤ turn .taken
     taken-some h =
-        omega (arith, of-rest .0, next-some s (drop place input) (g .fits) (omega (arith, length-drop place input)))
+        omega (arith, taken-made, next-some s (drop place input) (g .fits) (omega (arith, length-drop place input)))
 
-    pub counted-within : packets + more ≤ length out₀
+    pub counted-within : packets + turn .packets ≤ length out₀
     unfolding first
     counted-within =
-        omega (arith, g .counted, of-rest .1 .1 .0, ap length goes-on, length-append first later, lines-least (heard s₀ input), g .room)
+        omega (arith, g .counted, packets-made, ap length goes-on, length-append first later, lines-least (heard s₀ input), g .room)
 
-    pub moved : Going input out₀ s₀ left state (place + taken) end (packets + more)
+    pub moved : Going input out₀ s₀ left (turn .state) (place + turn .taken) (turn .used) (packets + turn .packets)
     unfolding first later
     moved =
         let text = length-append (linesOf first) (linesOf later) in
@@ -100,18 +116,18 @@ module _ {input out₀ : List ℕ} {s₀ : Receiver} {out : List ℕ} {s : Recei
           bytes = g .bytes;
           room = g .room;
           within = taken-within;
-          fits = subst Consistent (sym (of-rest .1 .1 .1 .0)) (next-kept s (drop place input) (g .fits) (bytes-drop place input (g .bytes)));
+          fits = subst Consistent (sym (state-made)) (next-kept s (drop place input) (g .fits) (bytes-drop place input (g .bytes)));
           run =
-              ap₂ (λ (u : Receiver) (xs : List ℕ). runOf u xs) (of-rest .1 .1 .1 .0) (sym behind)
+              ap₂ (λ (u : Receiver) (xs : List ℕ). runOf u xs) (state-made) (sym behind)
               ∙ sym (next-run s (drop place input) (g .fits)) ∙ g .run;
           sized =
-              ap length (of-rest .1 .1 .1 .1)
+              ap length (of-rest .1)
               ∙ length-put used (linesOf first) out (omega (arith, text, ap length lines-go-on, g .measured, g .sized, g .room))
               ∙ g .sized;
-          counted = omega (arith, g .counted, of-rest .1 .1 .0, ap length goes-on, length-append first later);
-          measured = omega (arith, g .measured, of-rest .1 .0, ap length lines-go-on, text);
+          counted = omega (arith, g .counted, packets-made, ap length goes-on, length-append first later);
+          measured = omega (arith, g .measured, used-made, ap length lines-go-on, text);
           text =
-              ap₂ (λ (n : ℕ) (xs : List ℕ). putAt n (linesOf later) xs) (of-rest .1 .0) (of-rest .1 .1 .1 .1)
+              ap₂ (λ (n : ℕ) (xs : List ℕ). putAt n (linesOf later) xs) (used-made) (of-rest .1)
               ∙ put-put used (linesOf first) (linesOf later) out (omega (arith, text, ap length lines-go-on, g .measured, g .sized, g .room))
               ∙ ap (λ (xs : List ℕ). putAt used xs out) (sym lines-go-on)
               ∙ g .text;

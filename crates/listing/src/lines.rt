@@ -10,7 +10,7 @@ ghost use Rattle.serial.specs.Receiver.{consistentOf};
 ghost use Rattle.serial.specs.Run.{heard, runOf};
 ghost use Rattle.listing.specs.Listing.{Within, linesAnswer, listAnswer, listed, roomy, stateAfter};
 ghost use Rattle.listing.specs.Text.{linesOf};
-ghost use Rattle.listing.specs.Turn.{nextHeard, nextTaken};
+ghost use Rattle.listing.specs.Turn.{CopiedWithin, added, copiedOut, nextHeard, nextTurn};
 use framing::PACKET_MOST;
 use serial::Reason;
 use serial::Receiver;
@@ -63,7 +63,29 @@ fn has_room(size: usize, room: usize) -> bool
     size <= (room - 518) / 2
 }
 
-// What a call of the taker adds: the bytes that it took, the place behind the text, the packets, one or none, and the state after it.
+// What the line of a packet makes of a text: the place behind it, and the packets, one or none.
+struct Added {
+    used: usize,
+    packets: usize,
+}
+
+// Puts the line of the packet that the taker copied to the start of `room`, if it handed one out, behind the `used` bytes of the output.
+fn put_packet(reason: Reason, room: &[u8], out: &mut [u8], used: usize) -> Added
+    requires { ⌜ CopiedWithin reason (now room) × (used + length (linesOf (copiedOut reason (now room))) ≤ length (now out)) ⌝ }
+    ensures { λ r. ⌜ r ≡ added used (copiedOut reason (now (room .entry))) ⌝ }
+    ensures { λ _. ⌜ now (out .exit) ≡ putAt used (linesOf (copiedOut reason (now (room .entry)))) (now (out .entry)) ⌝ }
+{
+    if let Reason::Packet(n) = reason {
+        let end = text::put_line(&room[..n], out, used);
+        return Added {
+            used: end,
+            packets: 1,
+        };
+    }
+    Added { used, packets: 0 }
+}
+
+// What a call of the taker adds: the bytes that it took, the place behind the text, the packets, and the state after it.
 struct Turn {
     taken: usize,
     used: usize,
@@ -74,29 +96,18 @@ struct Turn {
 // Calls the taker once, from a consistent state, and puts the line of a packet that it hands out behind the `used` bytes of the output.
 fn list_next(receiver: Receiver, input: &[u8], out: &mut [u8], used: usize) -> Turn
     requires { ⌜ (consistentOf receiver ≡ true) × (used + length (linesOf (heard receiver (now input))) ≤ length (now out)) ⌝ }
-    ensures { λ r. ⌜ r .taken ≡ nextTaken receiver (now (input .entry)) .taken ⌝ }
-    ensures { λ r. ⌜ r .used ≡ used + length (linesOf (nextHeard receiver (now (input .entry)))) ⌝ }
-    ensures { λ r. ⌜ r .packets ≡ length (nextHeard receiver (now (input .entry))) ⌝ }
-    ensures { λ r. ⌜ r .state ≡ nextTaken receiver (now (input .entry)) .state ⌝ }
+    ensures { λ r. ⌜ r ≡ nextTurn receiver (now (input .entry)) used ⌝ }
     ensures { λ _. ⌜ now (out .exit) ≡ putAt used (linesOf (nextHeard receiver (now (input .entry)))) (now (out .entry)) ⌝ }
 {
-    let mut packet = [0u8; PACKET_MOST];
-    let t = receiver.take(input, input.len(), &mut packet);
+    let mut room = [0u8; PACKET_MOST];
+    let t = receiver.take(input, input.len(), &mut room);
     let reason = t.reason;
     let state = t.state;
-    if let Reason::Packet(n) = reason {
-        let end = text::put_line(&packet[..n], out, used);
-        return Turn {
-            taken: t.taken,
-            used: end,
-            packets: 1,
-            state,
-        };
-    }
+    let line = put_packet(reason, &room, out, used);
     Turn {
         taken: t.taken,
-        used,
-        packets: 0,
+        used: line.used,
+        packets: line.packets,
         state,
     }
 }

@@ -2,12 +2,12 @@
 -- hands out, that it has a byte. Assumes nothing.
 use Prim.Native.Nat.{ℕ, _≤_}
 use mathlib.Core.Path.{_≡_, _∙_, ap, refl}
-use mathlib.Core.Bool.{Bool, true, false, cond}
+use mathlib.Core.Bool.{Bool, true, false, cond, _&&_}
 use mathlib.Core.List.{List, [], _∷_}
 use native.Mathlib.Omega.{arith}
 use lib.Dec.{eqb}
 use lib.ListN.{length}
-use borrow.Author.Tests.{ne-eqb}
+use borrow.Author.Tests.{eqb-true, ne-eqb}
 use Rattle.checks.specs.Numbers.{firstOf, valueOf}
 use Rattle.serial.specs.declared.receiver.Position.{Position}
 use Rattle.serial.specs.declared.receiver.Position.the-variants.{FrameSearch, SerialRevision, ByteCount, Data, DataEscaped, Check, FrameEnd}
@@ -15,11 +15,13 @@ use Rattle.serial.specs.declared.receiver.Receiver.{Receiver}
 use Rattle.serial.specs.declared.receiver.Stepped.{Stepped}
 use Rattle.serial.specs.declared.taker.Taken.{Taken}
 use Rattle.serial.specs.Answers.{handedAt, outcomeAnswer, reasonAnswer, stepAnswer, takerAnswer}
-use Rattle.serial.specs.Receiver.{consistentOf, handsOut, stepOf}
+use Rattle.framing.specs.Frame.{flag}
+use Rattle.serial.specs.Receiver.{agreesOf, consistentOf, stepOf}
 use Rattle.serial.specs.Taker.{copiedOf, takenOf}
 use Rattle.serial.proofs.Consistent.{here-at}
 use Rattle.state.specs.declared.kept.Took.{Took}
 use Rattle.state.specs.InBuffer.{handedPart, packetPlace, stepAnswerIn, stepIn, stepLeaves, takeAnswerIn, takeLeaves, takeOutput, tookIn}
+use Rattle.state.specs.Laws.{HandedSome}
 use Rattle.state.specs.State.{left, loaded}
 
 -- a step on the state s that was loaded, which gave r; its state was stored, and `after` is what the buffer holds then
@@ -52,35 +54,56 @@ take-gives input allowance bytes after out made s t from e copied answered store
 
 -- ---- a packet that a step hands out
 
--- a packet at a place by its length, where 0 is none
-abbrev at-length : ℕ → ℕ
-at-length n = cond (eqb n 0) 0 packetPlace
+-- where one is handed out: in FrameEnd, on a flag, and its length is the count
+pub record Handed (p : Position) (b n : ℕ) (s : Receiver) : Type 0 where
+  pub at-end : p ≡ FrameEnd
+  pub on-flag : b ≡ flag
+  pub counted : s .count ≡ n
 
--- from a consistent state it has a byte, so its length tells whether there is one
-by-length : (s : Receiver) (b : ℕ) → consistentOf s ≡ true → (p : Position) → s .position ≡ p
-    → at-length (firstOf (handedAt p b s)) ≡ handedPart (handedAt p b s) .place
-by-length s b h FrameSearch e = refl
-by-length s b h SerialRevision e = refl
-by-length s b h ByteCount e = refl
-by-length s b h Data e = refl
-by-length s b h DataEscaped e = refl
-by-length s b h Check e = refl
-by-length s b h FrameEnd e = go (handsOut b s)
+pub handed : (p : Position) (b n : ℕ) (ns : List ℕ) (s : Receiver) → handedAt p b s ≡ n ∷ ns → Handed p b n s
+handed FrameSearch b n ns s e = absurd (omega (arith, ap length e))
+handed SerialRevision b n ns s e = absurd (omega (arith, ap length e))
+handed ByteCount b n ns s e = absurd (omega (arith, ap length e))
+handed Data b n ns s e = absurd (omega (arith, ap length e))
+handed DataEscaped b n ns s e = absurd (omega (arith, ap length e))
+handed Check b n ns s e = absurd (omega (arith, ap length e))
+handed FrameEnd b n ns s e = go (eqb b flag) (agreesOf s) refl e
   where
-    some : s .count ≡ 0 → ⊥
-    some z = omega (arith, here-at s h FrameEnd e .0 .some)
+    go : (f a : Bool) → eqb b flag ≡ f → cond (f && a) (s .count ∷ []) [] ≡ n ∷ ns → Handed FrameEnd b n s
+    go true true h e = record { at-end = refl; on-flag = eqb-true b flag h; counted = ap firstOf e }
+    go true false h e = absurd (omega (arith, ap length e))
+    go false a h e = absurd (omega (arith, ap length e))
 
-    go : (t : Bool) → at-length (firstOf (cond t (s .count ∷ []) [])) ≡ handedPart (cond t (s .count ∷ []) []) .place
-    go true = simp (ne-eqb (s .count) 0 some)
-    go false = refl
+-- what it is handed out of
+pub record HandedIn (b n : ℕ) (bytes : List ℕ) : Type 0 where
+  pub fits : consistentOf (loaded bytes) ≡ true
+  pub gave : Handed (loaded bytes .position) b n (loaded bytes)
+
+pub handed-in : (b n : ℕ) (ns bytes : List ℕ) → stepAnswerIn b bytes .values ≡ n ∷ ns → HandedIn b n bytes
+unfolding stepAnswerIn
+handed-in b n ns bytes e = go (consistentOf (loaded bytes)) refl
+  where
+    go : (t : Bool) → consistentOf (loaded bytes) ≡ t → HandedIn b n bytes
+    go true h = record { fits = h; gave = handed (loaded bytes .position) b n ns (loaded bytes) (simp h at e) }
+    go false h = absurd (omega (arith, ap length (simp h at e)))
+
+-- it has a byte: in FrameEnd a consistent state has a count
+some : (b n : ℕ) (ns bytes : List ℕ) → stepAnswerIn b bytes .values ≡ n ∷ ns → 1 ≤ n
+some b n ns bytes e =
+    let from = handed-in b n ns bytes e in
+    omega (arith, here-at (loaded bytes) (from .fits) FrameEnd (from .gave .at-end) .0 .some, from .gave .counted)
+
+pub handed-some : HandedSome
+handed-some bytes b n e = some b n [] bytes e
+
+-- so an answer's first value tells whether there is one: its place, and its size
+by-length : (vs : List ℕ) → ((n : ℕ) (ns : List ℕ) → vs ≡ n ∷ ns → 1 ≤ n)
+    → cond (eqb (firstOf vs) 0) 0 packetPlace ≡ handedPart vs .place
+by-length [] least = refl
+by-length (n ∷ ns) least = simp (ne-eqb n 0 (λ z. omega (arith, least n ns refl)))
 
 pub handed-place : (b : ℕ) (bytes : List ℕ) → cond (eqb (valueOf (stepAnswerIn b bytes)) 0) 0 packetPlace ≡ handedPart (stepAnswerIn b bytes .values) .place
-unfolding stepAnswerIn
-handed-place b bytes = go (consistentOf (loaded bytes)) refl
-  where
-    go : (t : Bool) → consistentOf (loaded bytes) ≡ t → at-length (valueOf (stepAnswerIn b bytes)) ≡ handedPart (stepAnswerIn b bytes .values) .place
-    go true e = simp e (by-length (loaded bytes) b e (loaded bytes .position) refl)
-    go false e = simp e
+handed-place b bytes = by-length (stepAnswerIn b bytes .values) (λ n ns e. some b n ns bytes e)
 
 pub handed-size : (vs : List ℕ) → firstOf vs ≡ handedPart vs .size
 handed-size [] = refl

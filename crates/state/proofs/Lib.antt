@@ -1,3 +1,4 @@
 pub mod State
 pub mod InBuffer
 pub mod StateLaws
+pub mod OneResult

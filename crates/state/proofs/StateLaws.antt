@@ -10,26 +10,23 @@ use lib.ListN.{drop, getD, length, length-drop, length-replicate, length-set, se
 use lib.Seq.{getD-set-same}
 use borrow.Author.Tests.{eq-eqb, eqb-false, eqb-true, le-ltb, lt-leb, ltb-false, ltb-true}
 use Rattle.checks.specs.Laws.{Bytes}
-use Rattle.checks.specs.Part.{bytesOf}
 use Rattle.checks.proofs.Choice.{by-cond, left as both-left}
 use Rattle.checks.proofs.Numbers.{same-number}
 use Rattle.serial.specs.declared.receiver.Position.{Position}
 use Rattle.serial.specs.declared.receiver.Position.the-variants.{FrameSearch, SerialRevision, ByteCount, Data, DataEscaped, Check, FrameEnd}
 use Rattle.serial.specs.declared.receiver.Receiver.{Receiver}
 use Rattle.serial.specs.Consistency.{Consistent}
-use Rattle.serial.specs.Answers.{handedAt}
-use Rattle.framing.specs.Frame.{flag}
 use Rattle.framing.specs.Frame.{packetMost}
-use Rattle.serial.specs.Receiver.{consistentOf, fitsAt, freshOf, stepOf, storedSize}
-use Rattle.serial.specs.Run.{packetIn, runBy}
+use Rattle.serial.specs.Receiver.{consistentOf, fitsAt, freshOf, positionNumber, positions, stepOf, storedSize}
+use Rattle.serial.specs.Run.{runBy}
 use Rattle.serial.specs.Taker.{takenOf}
 use Rattle.serial.proofs.Consistent.{facts}
 use Rattle.serial.proofs.HandsBack.{step-hands-back, taker-hands-back}
 use Rattle.serial.proofs.Keeps.{fresh-consistent, keeps}
-use Rattle.state.specs.InBuffer.{handedPart, holdsState, stepAnswerIn, stepLeaves, stepsLeave, takeAnswerIn, takeLeaves, takenIn}
+use Rattle.state.specs.InBuffer.{holdsState, stepAnswerIn, stepLeaves, stepsLeave, takeAnswerIn, takeLeaves, takenIn}
 use Rattle.state.specs.Laws.{FreshZeros, GoesOn, HandedThere, LeavesState, LoadedStored, NoState, ShortKept, StepsRun, StoredLoaded, StoredTells, WrongSize}
 use Rattle.state.specs.State.{left, loaded, noPosition, noState, sized, stateBytes, stateOf, stateSize, storedAt, tooLarge}
-use Rattle.serial.specs.Receiver.{positionNumber, positions}
+use Rattle.state.proofs.InBuffer.{handed-in}
 use Rattle.state.proofs.State.{left-large, left-other, left-stored, loaded-known, loaded-other, loaded-unknown}
 
 -- ---- the first byte
@@ -251,32 +248,13 @@ short-kept input bytes allowance room small h = of-state (consistentOf (loaded b
 
 -- ---- a packet that was handed out
 
--- only a flag hands one out
-on-flag : (p : Position) (b n : ℕ) (s : Receiver) → handedAt p b s ≡ n ∷ [] → b < 256
-on-flag FrameSearch b n s e = absurd (omega (arith, ap length e))
-on-flag SerialRevision b n s e = absurd (omega (arith, ap length e))
-on-flag ByteCount b n s e = absurd (omega (arith, ap length e))
-on-flag Data b n s e = absurd (omega (arith, ap length e))
-on-flag DataEscaped b n s e = absurd (omega (arith, ap length e))
-on-flag Check b n s e = absurd (omega (arith, ap length e))
-on-flag FrameEnd b n s e = go (eqb b flag) refl
-  where
-    go : (t : Bool) → eqb b flag ≡ t → b < 256
-    go true h = omega (arith, eqb-true b flag h)
-    go false h = absurd (omega (arith, ap length (simp h at e)))
-
--- from a state, so that what is left is one: the stored bytes begin at 4, and the packet 2 behind
+-- on a flag and from a state, so that what is left is one: the stored bytes begin at 4, and the packet 2 behind
 pub handed-there : HandedThere
-unfolding stepAnswerIn stepLeaves
-handed-there bytes b n size h = go (consistentOf (loaded bytes)) refl
-  where
-    go : (t : Bool) → consistentOf (loaded bytes) ≡ t
-        → bytesOf (handedPart (stepAnswerIn b bytes .values)) (stepLeaves b bytes) ≡ packetIn n (stepOf b (loaded bytes) .state)
-    go true e =
-        let byte = on-flag (loaded bytes .position) b n (loaded bytes) (simp e at h) in
-        let next = step-hands-back (loaded bytes) (loaded-size bytes) b byte in
-        simp (h, stored bytes size (stepOf b (loaded bytes) .state) (next .fits))
-    go false e = absurd (omega (arith, ap length (simp e at h)))
+unfolding stepLeaves
+handed-there bytes b n size h =
+    let byte : b < 256 = omega (arith, handed-in b n [] bytes h .gave .on-flag) in
+    let next = step-hands-back (loaded bytes) (loaded-size bytes) b byte in
+    simp (h, stored bytes size (stepOf b (loaded bytes) .state) (next .fits))
 
 -- ---- bytes fed one by one
 

@@ -1,6 +1,6 @@
 -- Load and store are each other's inverse on consistent states, any other bytes are refused, and what a call leaves is a state. The proofs:
 -- `proofs/StateLaws.antt`. Assumes nothing.
-use Prim.Native.Nat.{ℕ, _<_}
+use Prim.Native.Nat.{ℕ, _≤_, _<_}
 use mathlib.Core.Path.{_≡_}
 use mathlib.Core.Bool.{true, false}
 use mathlib.Core.List.{List, [], _∷_}
@@ -22,6 +22,10 @@ StoredLoaded = (s : Receiver) → Consistent s → (loaded (stateBytes s) ≡ s)
 -- loaded, and stored again: the same bytes. So bytes that hold a state are those of a consistent state, and no others
 abbrev pub LoadedStored : Type 0
 LoadedStored = (bytes : List ℕ) → Bytes bytes → holdsState bytes ≡ true → Consistent (loaded bytes) × (stateBytes (loaded bytes) ≡ bytes)
+
+-- whatever state is stored in a buffer of a state's size, the buffer then holds a state exactly where that one is consistent
+abbrev pub StoredTells : Type 0
+StoredTells = (bytes : List ℕ) (s : Receiver) → sized bytes ≡ true → length (s .stored) ≡ storedSize → holdsState (left bytes s) ≡ consistentOf s
 
 -- a fresh state is 263 zeros
 abbrev pub FreshZeros : Type 0
@@ -69,6 +73,6 @@ abbrev pub HandedThere : Type 0
 HandedThere = (bytes : List ℕ) (b n : ℕ) → sized bytes ≡ true → stepAnswerIn b bytes .values ≡ n ∷ []
     → bytesOf (handedPart (stepAnswerIn b bytes .values)) (stepLeaves b bytes) ≡ packetIn n (stepOf b (loaded bytes) .state)
 
--- whatever state is stored in a buffer of a state's size, the buffer then holds a state exactly where that one is consistent
-abbrev pub StoredTells : Type 0
-StoredTells = (bytes : List ℕ) (s : Receiver) → sized bytes ≡ true → length (s .stored) ≡ storedSize → holdsState (left bytes s) ≡ consistentOf s
+-- and it has a byte, so a size of 0 says that there is none
+abbrev pub HandedSome : Type 0
+HandedSome = (bytes : List ℕ) (b n : ℕ) → stepAnswerIn b bytes .values ≡ n ∷ [] → 1 ≤ n

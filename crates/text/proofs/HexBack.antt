@@ -14,7 +14,7 @@ use Rattle.checks.proofs.Choice.{and, left, right}
 use Rattle.io.specs.Digits.{glyph}
 use Rattle.text.specs.Hex.{hexAll, lineFeed}
 use Rattle.text.specs.Laws.{HexReadBack, HexTells, LineTells, OnlyHex}
-use Rattle.text.specs.Read.{allDigits, digitValue, hexBytes, hexOutput, hexRead, isHex}
+use Rattle.text.specs.Read.{allDigits, digitValue, hexBytes, hexOutput, hexRead, isHex, pairValue}
 use Rattle.text.proofs.HexLaws.{hex-length, letter, numeral}
 
 -- ---- a digit
@@ -90,10 +90,10 @@ hex-read-back bs out h room =
 
 -- the text of a byte whose two digits are given
 pair-text : (h l : ℕ) → digitValue h < 16 → digitValue l < 16
-    → (glyph ((digitValue h * 16 + digitValue l) / 16) ≡ h) × (glyph ((digitValue h * 16 + digitValue l) % 16) ≡ l)
+    → (glyph (pairValue h l / 16) ≡ h) × (glyph (pairValue h l % 16) ≡ l)
 pair-text h l hh hl =
-    let high : (digitValue h * 16 + digitValue l) / 16 ≡ digitValue h = omega arith in
-    let low : (digitValue h * 16 + digitValue l) % 16 ≡ digitValue l = omega arith in
+    let high : pairValue h l / 16 ≡ digitValue h = omega arith in
+    let low : pairValue h l % 16 ≡ digitValue l = omega arith in
     (ap (λ (n : ℕ). glyph n) high ∙ only-digit h hh, ap (λ (n : ℕ). glyph n) low ∙ only-digit l hl)
 
 only-pairs : (text : List ℕ) → length text % 2 ≡ 0 → allDigits 16 text ≡ true → hexAll (hexBytes text) ≡ text

@@ -7,8 +7,8 @@ use mathlib.Core.List.{List, _++_}
 use native.Mathlib.Omega.{arith}
 use lib.ListN.{length, length-append}
 use borrow.Author.Tests.{le-leb, leb-true, lt-leb}
-use Rattle.checks.specs.Output.{atStart, putAt}
-use Rattle.checks.proofs.Output.{length-put, length-start, put-put}
+use Rattle.checks.specs.Output.{putAt}
+use Rattle.checks.proofs.Output.{length-put, put-put}
 use Rattle.io.specs.Counts.{Counts}
 use Rattle.io.proofs.Counting.{counts}
 use Rattle.text.specs.Put.{fits, putEnd, putText}
@@ -51,17 +51,26 @@ none-put place text out e = (simp e, (simp e, counts (length out) out (omega ari
 
 -- ---- puts that follow one another
 
--- a place and an output are those behind bytes at the output's start
-abbrev pub Behind : List ℕ → List ℕ → ℕ → List ℕ → Type 0
-Behind bytes out place after = (place ≡ length bytes) × (after ≡ atStart bytes out)
+-- a place and an output are those behind bytes that were put into `out`
+abbrev pub Behind : ℕ → List ℕ → List ℕ → ℕ → List ℕ → Type 0
+Behind place bytes out next after = (next ≡ place + length bytes) × (after ≡ putAt place bytes out)
 
--- one put more
-pub then-put : (bytes text out before after : List ℕ) (place next : ℕ) → length bytes + length text ≤ length out → Behind bytes out place before
-    → next ≡ putEnd place text (length before) → after ≡ putText place text before → Behind (bytes ++ text) out next after
-then-put bytes text out before after place next room b en ea =
-    let sized : length before ≡ length out = ap length (b .1) ∙ length-start bytes out (omega arith) in
-    let same = with-room place text before (omega (arith, b .0, sized)) in
-    let there : place ≡ 0 + length bytes = omega (arith, b .0) in (
-      omega (arith, en, same .0, b .0, length-append bytes text),
-      ea ∙ same .1 ∙ ap₂ (λ (n : ℕ) (d : List ℕ). putAt n text d) there (b .1) ∙ put-put 0 bytes text out (omega arith),
-    )
+-- behind a text that fits
+pub put-behind : (place : ℕ) (text out : List ℕ) (next : ℕ) (after : List ℕ) → place + length text ≤ length out
+    → next ≡ putEnd place text (length out) → after ≡ putText place text out → Behind place text out next after
+put-behind place text out next after room en ea =
+    let same = with-room place text out room in
+    (en ∙ same .0, ea ∙ same .1)
+
+-- the output has kept its length
+pub length-behind : (place : ℕ) (bytes out : List ℕ) {next : ℕ} (after : List ℕ) → place + length bytes ≤ length out → Behind place bytes out next after
+    → length after ≡ length out
+length-behind place bytes out after room b = ap length (b .1) ∙ length-put place bytes out room
+
+-- two, the second right behind the first
+pub then-behind : (place : ℕ) (xs ys out : List ℕ) (middle next : ℕ) (before after : List ℕ) → place + length xs ≤ length out
+    → Behind place xs out middle before → Behind middle ys before next after → Behind place (xs ++ ys) out next after
+then-behind place xs ys out middle next before after room b c = (
+  omega (arith, b .0, c .0, length-append xs ys),
+  c .1 ∙ ap₂ (λ (n : ℕ) (d : List ℕ). putAt n ys d) (b .0) (b .1) ∙ put-put place xs ys out room,
+)

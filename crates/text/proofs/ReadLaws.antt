@@ -1,7 +1,7 @@
 -- Laws of reading, by the definitions' tests: a digit of a text of digits is below the base; what is left of a text from a place on; and what the two
 -- functions say. Assumes nothing.
 use Prim.Native.Nat.{ℕ, zero, suc, _+_, _*_, _/_, _^_, _≤_, _<_}
-use mathlib.Core.Path.{_≡_, _∙_, ap, ap₂, refl, sym}
+use mathlib.Core.Path.{_≡_, _∙_, ap, refl, sym}
 use mathlib.Core.Bool.{true, false, not, _&&_}
 use mathlib.Core.List.{List, [], _∷_}
 use native.Mathlib.Numerals.{add-one}
@@ -16,7 +16,7 @@ use Rattle.checks.proofs.Output.{length-start, put-one, put-put}
 use Rattle.io.specs.Counts.{Counts}
 use Rattle.io.proofs.Counting.{counts}
 use Rattle.text.specs.declared.hex.HexRead.{HexRead}
-use Rattle.text.specs.Read.{allDigits, decimalRead, decimalValue, digitValue, hexBytes, hexFits, hexOutput, hexRead, startsNumber, valueFrom}
+use Rattle.text.specs.Read.{allDigits, decimalRead, decimalValue, digitValue, hexBytes, hexFits, hexOutput, hexRead, pairValue, startsNumber, valueFrom}
 
 -- ---- digits
 
@@ -48,7 +48,7 @@ module _ (base : ℕ) (text : List ℕ) (i : ℕ) (all : allDigits base (drop i 
 
 -- of what is left from the pair i on, its byte and the rest
 pub pair-next : (text : List ℕ) (i : ℕ) → 2 * i + 1 < length text
-    → hexBytes (drop (2 * i) text) ≡ (digitValue (getD text (2 * i) 0) * 16 + digitValue (getD text (2 * i + 1) 0)) ∷ hexBytes (drop (2 * (i + 1)) text)
+    → hexBytes (drop (2 * i) text) ≡ pairValue (getD text (2 * i) 0) (getD text (2 * i + 1) 0) ∷ hexBytes (drop (2 * (i + 1)) text)
 unfolding hexBytes
 pair-next text i h =
     let next : suc (2 * i) ≡ 2 * i + 1 = omega arith in
@@ -78,15 +78,14 @@ pairs-length (c ∷ []) = refl
 pairs-length (c ∷ d ∷ rest) = omega (arith, pairs-length rest)
 
 -- a turn: the pair's byte is stored, and then the rest
-pub pair-turn : (text : List ℕ) (i : ℕ) (out : List ℕ) (high low : ℕ) → 2 * i + 1 < length text → i < length out
-    → high ≡ digitValue (getD text (2 * i) 0) → low ≡ digitValue (getD text (2 * i + 1) 0)
-    → putAt (i + 1) (hexBytes (drop (2 * (i + 1)) text)) (set out i (high * 16 + low)) ≡ putAt i (hexBytes (drop (2 * i) text)) out
-pair-turn text i out high low h room eh el =
+pub pair-turn : (text : List ℕ) (i : ℕ) (out : List ℕ) (b : ℕ) → 2 * i + 1 < length text → i < length out
+    → b ≡ pairValue (getD text (2 * i) 0) (getD text (2 * i + 1) 0)
+    → putAt (i + 1) (hexBytes (drop (2 * (i + 1)) text)) (set out i b) ≡ putAt i (hexBytes (drop (2 * i) text)) out
+pair-turn text i out b h room e =
     let rest = hexBytes (drop (2 * (i + 1)) text) in
-    let b = high * 16 + low in
     ap (putAt (i + 1) rest) (put-one i b out room)
     ∙ put-put i (b ∷ []) rest out (omega arith)
-    ∙ ap (λ (xs : List ℕ). putAt i xs out) (ap₂ (λ (x y : ℕ). (x * 16 + y) ∷ rest) eh el ∙ sym (pair-next text i h))
+    ∙ ap (λ (xs : List ℕ). putAt i xs out) (ap (λ (x : ℕ). x ∷ rest) e ∙ sym (pair-next text i h))
 
 -- what `read_hex` says: its answer, the output, and that the bytes lie within it
 abbrev pub ReadsHex : List ℕ → List ℕ → HexRead → List ℕ → Type 0

@@ -25,11 +25,15 @@ allDigits base (c ∷ cs) = ltb (digitValue c) base && allDigits base cs
 abbrev pub isHex : List ℕ → Bool
 isHex text = eqb (length text % 2) 0 && allDigits 16 text
 
--- its bytes, one for each two digits, of which the high one stands first
+-- the byte of two digits, the high one first
+abbrev pub pairValue : ℕ → ℕ → ℕ
+pairValue h l = digitValue h * 16 + digitValue l
+
+-- its bytes, one for each two digits
 unfoldable pub hexBytes : List ℕ → List ℕ
 hexBytes [] = []
 hexBytes (h ∷ []) = []
-hexBytes (h ∷ l ∷ rest) = (digitValue h * 16 + digitValue l) ∷ hexBytes rest
+hexBytes (h ∷ l ∷ rest) = pairValue h l ∷ hexBytes rest
 
 -- it can be read into an output of `room` bytes
 abbrev pub hexFits : List ℕ → ℕ → Bool

@@ -1,13 +1,13 @@
 // Hex, out and in: lower case, two digits for each byte.
-ghost use Prim.Native.Nat.{_+_, _≤_, _/_};
+ghost use Prim.Native.Nat.{_+_, _*_, _/_, _≤_, _<_};
 ghost use mathlib.Core.Path.{_≡_};
 ghost use mathlib.Core.Bool.{true};
-ghost use lib.ListN.{length};
+ghost use lib.ListN.{length, getD};
 ghost use Rattle.checks.specs.Output.{atStart, putAt};
 ghost use Rattle.io.specs.Counts.{Counts};
 ghost use Rattle.text.specs.Hex.{hexAll, hexOf, lineOf};
 ghost use Rattle.text.specs.Put.{putEnd, putText};
-ghost use Rattle.text.specs.Read.{allDigits, hexBytes, hexOutput, hexRead};
+ghost use Rattle.text.specs.Read.{allDigits, hexBytes, hexOutput, hexRead, pairValue};
 use crate::digits::all_digits;
 use crate::digits::digit;
 use crate::digits::digit_value;
@@ -72,15 +72,23 @@ pub fn put_line(bytes: &[u8], out: &mut [u8], place: usize) -> usize
     out.len()
 }
 
+// The byte of a text's pair of hex digits, the pairs counted from 0.
+fn pair_at(text: &[u8], i: usize) -> u8
+    requires { ⌜ (allDigits 16 (now text) ≡ true) × (2 * i + 1 < length (now text)) ⌝ }
+    ensures { λ r. ⌜ r ≡ pairValue (getD (now (text .entry)) (2 * i) 0) (getD (now (text .entry)) (2 * i + 1) 0) ⌝ }
+{
+    digit_value(text[2 * i]) * 16 + digit_value(text[2 * i + 1])
+}
+
 // The bytes of a text of hex digits, put at the start of an output that has their room.
-fn put_values(text: &[u8], out: &mut [u8])
+fn put_pairs(text: &[u8], out: &mut [u8])
     requires { ⌜ (allDigits 16 (now text) ≡ true) × (length (now text) / 2 ≤ length (now out)) ⌝ }
     ensures { λ _. ⌜ now (out .exit) ≡ atStart (hexBytes (now (text .entry))) (now (out .entry)) ⌝ }
 {
     let count = text.len() / 2;
     let mut i = 0;
     while i < count {
-        out[i] = digit_value(text[2 * i]) * 16 + digit_value(text[2 * i + 1]);
+        out[i] = pair_at(text, i);
         i += 1;
     }
 }
@@ -94,7 +102,7 @@ pub fn read_hex(text: &[u8], out: &mut [u8]) -> HexRead
 {
     let count = text.len() / 2;
     if (text.len() % 2 == 0) & all_digits(16, text) & (count <= out.len()) {
-        put_values(text, out);
+        put_pairs(text, out);
         return HexRead { ok: true, count };
     }
     HexRead {

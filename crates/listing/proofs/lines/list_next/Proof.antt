@@ -1,19 +1,8 @@
--- `listing::lines::list_next` meets its contract: the taker's promise, and a packet's line put behind the text. Assumes nothing.
+-- `listing::lines::list_next` meets its contract: the taker's promise, and the line of what it copied. Assumes nothing.
 use Prim.Native.Nat.{ℕ}
-use mathlib.Core.Path.{_≡_, refl}
-use mathlib.Core.List.{[], _∷_}
-use mathlib.Core.Logic.{inl, inr}
-use native.Mathlib.Omega.{arith}
-use lib.ListN.{length-replicate, replicate}
-use types.Run.{OneOf}
-use denote.Enum.Declared.{tagOf}
+use lib.ListN.{length, length-replicate, replicate}
 use borrow.Author.Needs.{needs}
-use Rattle.serial.specs.declared.receiver.Receiver.{Receiver}
-use Rattle.serial.specs.declared.taker.Reason.{Reason}
-use Rattle.serial.specs.declared.taker.Reason.the-variants.{Packet, InputEnded, AllowanceSpent, ShortOutput, Inconsistent}
-use Rattle.serial.proofs.taker.Reason.{the-type}
-use Rattle.listing.specs.Turn.{handedOut}
-use Rattle.listing.proofs.Said.{Called, none-said, packet-room, packet-said, packet-size}
+use Rattle.listing.proofs.Said.{Called, copied-within, line-fits, turn-said}
 use Rattle.listing.proofs.lines.list_next.Statement.{statement}
 use Rattle.listing.proofs.lines.list_next.Tie as tie
 
@@ -30,55 +19,30 @@ called k =
       copied = k .take .ensures .1 .0;
     }
 
--- a reason that is another than the first, a packet, hands nothing out
-none-handed : (r : Reason) (s : Receiver) → OneOf (1 ∷ 2 ∷ 3 ∷ 4 ∷ []) (tagOf the-type r) → handedOut r s ≡ []
-none-handed (Packet n) s k = absurd (no-packet k)
-  where
-    no-packet : OneOf (1 ∷ 2 ∷ 3 ∷ 4 ∷ []) 0 → ⊥
-    no-packet (inl e) = omega arith
-    no-packet (inr (inl e)) = omega arith
-    no-packet (inr (inr (inl e))) = omega arith
-    no-packet (inr (inr (inr e))) = omega arith
-none-handed InputEnded s k = refl
-none-handed AllowanceSpent s k = refl
-none-handed ShortOutput s k = refl
-none-handed Inconsistent s k = refl
-
 slice-aggregate-take : tie.Need-slice-aggregate-take
 slice-aggregate-take c = search needs
 
 take-requires : tie.Need-take-requires
 take-requires c κs = search needs
 
-enum-known-reason : tie.Need-enum-known-reason
-enum-known-reason c = search needs
+slice-aggregate-put-packet : tie.Need-slice-aggregate-put-packet
+slice-aggregate-put-packet c = search needs
 
-array-share-prefix-packet : tie.Need-array-share-prefix-packet
-array-share-prefix-packet c =
-    packet-room _ _ _ _ _ (called (c .before .before .before .before .before)) _ (c .before .reason .given .1)
-
-slice-aggregate-put-line : tie.Need-slice-aggregate-put-line
-slice-aggregate-put-line c =
-    packet-size _ _ _ _ _ (called (c .before .before .before .before .before .before)) _ (c .before .before .reason .given .1)
-
-put-line-requires : tie.Need-put-line-requires
-put-line-requires c κs = search needs
+put-packet-requires : tie.Need-put-packet-requires
+put-packet-requires c κs =
+    let k = c .before .before .before .before in
+    let a = k .before .before .before .before in
+    (copied-within (called k), line-fits (called k) (a .args .used) (length (a .args .out .now)) (a .pre .1))
 
 same-length : tie.Need-same-length
 same-length c = search needs
 
 returns : tie.Need-returns
 returns c =
-    let k = c .before .before .before .before .before .before .before .before .before .before in
+    let p = c .before .before in
+    let k = p .before .before .before .before .before in
     let a = k .before .before .before .before in
-    let e = c .before .before .put-line .ensures in
-    packet-said _ _ _ _ _ (called k) _ (c .before .before .before .before .before .before .reason .given .1) (a .args .used) _ (a .args .out .now) _ (a .pre .1) (e .0) (e .1 .0)
-
-returns-2 : tie.Need-returns-2
-returns-2 c =
-    let k = c .before .before .before in
-    let a = k .before .before .before .before in
-    none-said _ _ _ _ _ (called k) (a .args .used) (a .args .out .now) (none-handed (k .take .result .reason) (k .take .result .state) (c .match .keys2)) (omega (arith, a .pre .1))
+    turn-said (called k) (a .args .used) (a .args .out .now) (p .put-packet .result) _ (p .put-packet .ensures .0) (p .put-packet .ensures .1)
 
 pub list-next-spec : {M : Type 1} → statement M
 list-next-spec =
@@ -86,10 +50,7 @@ list-next-spec =
     (tie.spec
     slice-aggregate-take
     take-requires
-    enum-known-reason
-    array-share-prefix-packet
-    slice-aggregate-put-line
-    put-line-requires
+    slice-aggregate-put-packet
+    put-packet-requires
     same-length
-    returns
-    returns-2)
+    returns)

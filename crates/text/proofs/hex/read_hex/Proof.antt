@@ -21,8 +21,8 @@ tested text room d t e w = ap (λ (x : Bool). eqb (length text % 2) 0 && x && le
 all-digits-requires : tie.Need-all-digits-requires
 all-digits-requires c κs = search needs
 
-put-values-requires : tie.Need-put-values-requires
-put-values-requires c κs =
+put-pairs-requires : tie.Need-put-pairs-requires
+put-pairs-requires c κs =
     let t = c .before in
     let text = t .before .before .before .before .args .text .now in
     let all = tested text (length (t .before .before .before .before .args .out .now)) _ true (t .before .all-digits .ensures) (t .if1 .taken) in
@@ -37,7 +37,7 @@ returns c =
     let t = p .before .before in
     let a = t .before .before .before .before .args in
     let all = tested (a .text .now) (length (a .out .now)) _ true (t .before .all-digits .ensures) (t .if1 .taken) in
-    hex-read (a .text .now) (a .out .now) _ all (leb-true _ _ (right (isHex (a .text .now)) _ all)) (p .put-values .ensures)
+    hex-read (a .text .now) (a .out .now) _ all (leb-true _ _ (right (isHex (a .text .now)) _ all)) (p .put-pairs .ensures)
 
 returns-2 : tie.Need-returns-2
 returns-2 c =
@@ -46,4 +46,4 @@ returns-2 c =
 
 pub read-hex-spec : {M : Type 1} → statement M
 read-hex-spec =
-    tie.close (tie.spec all-digits-requires put-values-requires same-length returns returns-2)
+    tie.close (tie.spec all-digits-requires put-pairs-requires same-length returns returns-2)
