@@ -7,7 +7,7 @@ use lib.Dec.{eqb}
 use lib.ListN.{getD}
 use denote.Ref.{now}
 use Rattle.checks.specs.Numbers.{Answer, done, shortOutput}
-use Rattle.checks.specs.OneResult.{OneOutcome}
+use Rattle.checks.specs.OneResult.{OneOutcome, OneResult}
 use Rattle.checks.proofs.Numbers.{tells}
 use Rattle.serial.specs.declared.receiver.Receiver.{Receiver}
 use Rattle.listing.specs.declared.lines.Lines.{Lines}
@@ -18,6 +18,10 @@ use Rattle.listing.proofs.ending.closing_line.Kinds as closing-line
 use Rattle.listing.proofs.ending.closing_line.Reads as closing-line-reads
 use Rattle.listing.proofs.lines.list.Kinds as list
 use Rattle.listing.proofs.lines.list.Reads as list-reads
+use Rattle.listing.proofs.lines.Lines.number.Kinds as lines-number
+use Rattle.listing.proofs.lines.Lines.number.Reads as lines-number-reads
+use Rattle.listing.proofs.lines.Lines.value.Kinds as lines-value
+use Rattle.listing.proofs.lines.Lines.value.Reads as lines-value-reads
 
 -- the output is the last parameter
 pub closing-line-one : OneOutcome 1 closing-line.ps closing-line.r (λ κs e. now (e .1 .1 .0)) closing-line-reads.Post
@@ -45,3 +49,11 @@ list-one κs a x y e f p q = (
   same-listed x y (same-lines (x .answer) (y .answer) (p .0 ∙ sym (q .0))) (p .1 .1 .0 ∙ sym (q .1 .1 .0)) (p .1 .1 .1 .0 ∙ sym (q .1 .1 .1 .0)),
   p .1 .1 .1 .1 ∙ sym (q .1 .1 .1 .1),
 )
+
+-- ---- the answer's number and value
+
+pub lines-number-one : OneResult 0 lines-number.ps lines-number.r lines-number-reads.Post
+lines-number-one κs a x y e f p q = p ∙ sym q
+
+pub lines-value-one : OneResult 0 lines-value.ps lines-value.r lines-value-reads.Post
+lines-value-one κs a x y e f p q = p ∙ sym q

@@ -13,6 +13,14 @@ use Rattle.serial.proofs.receiver.Receiver.step.Kinds as step
 use Rattle.serial.proofs.receiver.Receiver.step.Reads as step-reads
 use Rattle.serial.proofs.receiver.Receiver.take.Kinds as take
 use Rattle.serial.proofs.receiver.Receiver.take.Reads as take-reads
+use Rattle.serial.proofs.receiver.Outcome.number.Kinds as outcome-number
+use Rattle.serial.proofs.receiver.Outcome.number.Reads as outcome-number-reads
+use Rattle.serial.proofs.receiver.Outcome.value.Kinds as outcome-value
+use Rattle.serial.proofs.receiver.Outcome.value.Reads as outcome-value-reads
+use Rattle.serial.proofs.taker.Reason.number.Kinds as reason-number
+use Rattle.serial.proofs.taker.Reason.number.Reads as reason-number-reads
+use Rattle.serial.proofs.taker.Reason.value.Kinds as reason-value
+use Rattle.serial.proofs.taker.Reason.value.Reads as reason-value-reads
 
 pub fresh-one : OneResult 0 fresh.ps fresh.r fresh-reads.Post
 fresh-one κs a x y e f p q = p ∙ sym q
@@ -28,3 +36,17 @@ pub take-one : OneOutcome 2 take.ps take.r (λ κs e. now (e .1 .1 .1 .0)) take-
 take-one κs a x y e f p q =
     let same = p .0 ∙ sym (q .0) in
     (same, p .1 .0 ∙ ap (λ (t : Taken). copiedOf (t .reason) (t .state) (now (a .1 .1 .1 .0))) same ∙ sym (q .1 .0))
+
+-- ---- the answers' numbers and values
+
+pub outcome-number-one : OneResult 0 outcome-number.ps outcome-number.r outcome-number-reads.Post
+outcome-number-one κs a x y e f p q = p ∙ sym q
+
+pub outcome-value-one : OneResult 0 outcome-value.ps outcome-value.r outcome-value-reads.Post
+outcome-value-one κs a x y e f p q = p ∙ sym q
+
+pub reason-number-one : OneResult 0 reason-number.ps reason-number.r reason-number-reads.Post
+reason-number-one κs a x y e f p q = p ∙ sym q
+
+pub reason-value-one : OneResult 0 reason-value.ps reason-value.r reason-value-reads.Post
+reason-value-one κs a x y e f p q = p ∙ sym q
