@@ -1,3 +1,4 @@
+-- Without `pub` stands what no other crate can name: how a byte's step is made, and what that rests on.
 mod Table
 mod Xor
 pub mod Register

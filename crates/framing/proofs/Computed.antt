@@ -6,9 +6,9 @@ use mathlib.Core.List.{List}
 use native.Mathlib.Omega.{arith}
 use lib.ListN.{getD}
 use Rattle.checks.specs.Register.{bitStep, bitSteps, byteStep, checkFrom}
-use Rattle.framing.specs.Computed.{CaseAFrame, FlagAsCheck, FlagAsCount, SomethingWritten}
+use Rattle.framing.specs.Computed.{CaseAFrame, FlagAsCheck, FlagAsCount, LengthFirst, SomethingWritten}
 use Rattle.framing.specs.Frame.{escaped, escapedAll, frame}
-use Rattle.framing.specs.Writer.{outputOf}
+use Rattle.framing.specs.Writer.{outputOf, writerAnswer}
 
 pub case-a-frame : CaseAFrame
 unfolding frame escapedAll escaped checkFrom byteStep bitSteps bitStep
@@ -21,6 +21,10 @@ flag-as-check = refl
 pub flag-as-count : FlagAsCount
 unfolding frame escapedAll escaped checkFrom byteStep bitSteps bitStep
 flag-as-count = refl
+
+pub length-first : LengthFirst
+unfolding writerAnswer
+length-first = refl
 
 pub something-written : SomethingWritten
 unfolding outputOf frame

@@ -1,12 +1,14 @@
--- What is computed from the definitions: frames written out byte by byte, and what a writer leaves. An error in a definition breaks these first. The
--- proofs: `proofs/Computed.antt`. Assumes nothing.
+-- What is computed from the definitions: frames written out byte by byte, and what a writer answers and leaves. An error in a definition breaks these
+-- first. The proofs: `proofs/Computed.antt`. Assumes nothing.
 use Prim.Native.Nat.{ℕ}
 use mathlib.Core.Path.{_≡_}
 use mathlib.Core.List.{List, [], _∷_, _++_}
 use lib.ListN.{replicate}
+use Rattle.checks.specs.Numbers.{answer}
 use Rattle.framing.specs.declared.frame.Written.the-variants.{Done}
 use Rattle.framing.specs.Frame.{flag, frame}
-use Rattle.framing.specs.Writer.{outputOf}
+use Rattle.framing.specs.Numbers.{badLength}
+use Rattle.framing.specs.Writer.{outputOf, writerAnswer}
 
 -- a packet of five bytes that ends with b
 abbrev pub ending : ℕ → List ℕ
@@ -29,6 +31,10 @@ abbrev pub FlagAsCount : Type 0
 FlagAsCount =
     frame (0x01 ∷ replicate 125 0x00)
     ≡ 0x7e ∷ 0x01 ∷ 0x7e ∷ 0x01 ∷ (replicate 125 0x00 ++ (0x2a ∷ 0x37 ∷ 0x7e ∷ []))
+
+-- 1 before 2: a packet of no bytes, and no room for a frame
+abbrev pub LengthFirst : Type 0
+LengthFirst = writerAnswer [] 0 ≡ answer badLength []
 
 -- a writer that answers done and writes nothing does not meet its contract: twelve zeros are not case A's frame
 abbrev pub SomethingWritten : Type 0

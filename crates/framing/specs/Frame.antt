@@ -48,6 +48,7 @@ checkBytes packet = frameCheck (covered packet) / 256 ∷ frameCheck (covered pa
 abbrev pub behindFlag : List ℕ → List ℕ
 behindFlag packet = revision ∷ length packet ∷ (escapedAll packet ++ (checkBytes packet ++ (flag ∷ [])))
 
+-- the frame
 unfoldable pub frame : List ℕ → List ℕ
 frame packet = flag ∷ behindFlag packet
 
