@@ -16,7 +16,7 @@ pub struct DecimalRead {
     pub value: u64,
 }
 
-// Puts the number in decimal.
+// Puts the number in decimal from `place` on and answers the place behind it. Where it does not fit it writes nothing and answers the output's length.
 pub fn put_decimal(n: u64, out: &mut [u8], place: usize) -> usize
     ensures { λ r. ⌜ r ≡ putEnd place (decimal n) (length (now (out .entry))) ⌝ }
     ensures { λ _. ⌜ now (out .exit) ≡ putText place (decimal n) (now (out .entry)) ⌝ }
@@ -34,7 +34,7 @@ fn starts_number(text: &[u8]) -> bool
     if text.len() < 2 {
         return text.len() == 1;
     }
-    text[0] != 48
+    text[0] != b'0'
 }
 
 // The number of a text that has the form of one, if it is below 2^64.

@@ -4,26 +4,29 @@ ghost use mathlib.Core.Path.{_≡_};
 ghost use Rattle.io.specs.Digits.{glyph};
 ghost use Rattle.text.specs.Read.{allDigits, digitValue};
 
+// What a letter's ASCII code has beyond its value: `a` is 10.
+const BEFORE_LETTERS: u8 = b'a' - 10;
+
 // The ASCII code of a digit below 16.
 pub(crate) fn digit(d: u8) -> u8
     requires { ⌜ d < 16 ⌝ }
     ensures { λ r. ⌜ r ≡ glyph d ⌝ }
 {
     if d < 10 {
-        return 48 + d;
+        return b'0' + d;
     }
-    87 + d
+    BEFORE_LETTERS + d
 }
 
 // The value of a digit, or 16 where it is none.
 pub(crate) fn digit_value(c: u8) -> u8
     ensures { λ r. ⌜ r ≡ digitValue c ⌝ }
 {
-    if (48 <= c) & (c <= 57) {
-        return c - 48;
+    if (b'0' <= c) & (c <= b'9') {
+        return c - b'0';
     }
-    if (97 <= c) & (c <= 102) {
-        return c - 87;
+    if (b'a' <= c) & (c <= b'f') {
+        return c - BEFORE_LETTERS;
     }
     16
 }

@@ -13,7 +13,7 @@ use crate::digits::digit;
 use crate::digits::digit_value;
 use crate::plain::has_room;
 
-const LINE_FEED: u8 = 0x0a;
+const LINE_FEED: u8 = b'\n';
 
 // Whether a text was read, and how many bytes it has; 0 where it was not.
 pub struct HexRead {
@@ -46,7 +46,7 @@ fn put_digits(bytes: &[u8], out: &mut [u8], start: usize) -> usize
     place
 }
 
-// Puts the bytes as hex.
+// Puts the bytes as hex from `place` on and answers the place behind it. Where it does not fit it writes nothing and answers the output's length.
 pub fn put_hex(bytes: &[u8], out: &mut [u8], place: usize) -> usize
     ensures { λ r. ⌜ r ≡ putEnd place (hexAll (now (bytes .entry))) (length (now (out .entry))) ⌝ }
     ensures { λ _. ⌜ now (out .exit) ≡ putText place (hexAll (now (bytes .entry))) (now (out .entry)) ⌝ }
@@ -58,7 +58,8 @@ pub fn put_hex(bytes: &[u8], out: &mut [u8], place: usize) -> usize
     out.len()
 }
 
-// Puts the bytes as hex, and a line feed behind it.
+// Puts the bytes as hex with a line feed behind it from `place` on, and answers the place behind that. Where the line does not fit it writes nothing and
+// answers the output's length.
 pub fn put_line(bytes: &[u8], out: &mut [u8], place: usize) -> usize
     ensures { λ r. ⌜ r ≡ putEnd place (lineOf (now (bytes .entry))) (length (now (out .entry))) ⌝ }
     ensures { λ _. ⌜ now (out .exit) ≡ putText place (lineOf (now (bytes .entry))) (now (out .entry)) ⌝ }

@@ -1,6 +1,5 @@
-// Text as every program writes and reads it: bytes as they are, hex, decimal, a line. Each `put` function writes its text from a place of the output
-// on, if all of it fits, and answers the place behind it; where it does not fit it writes nothing and answers the output's length. So puts that ran out
-// of room end at the output's end: whoever needs to know lends a byte more than the text has.
+// Text as every program writes and reads it: bytes as they are, hex, decimal, a line. What is put is put whole or not at all, and puts that ran out of
+// room end at the output's end: whoever needs to know lends a byte more than the text has.
 mod decimal;
 mod digits;
 mod hex;

@@ -16,7 +16,8 @@ pub(crate) fn has_room(place: usize, size: usize, room: usize) -> bool
     size <= room - place
 }
 
-// Puts the text's bytes as they are.
+// Puts the text's bytes as they are from `place` on and answers the place behind them. Where they do not fit it writes nothing and answers the output's
+// length.
 pub fn put(text: &[u8], out: &mut [u8], place: usize) -> usize
     ensures { λ r. ⌜ r ≡ putEnd place (now (text .entry)) (length (now (out .entry))) ⌝ }
     ensures { λ _. ⌜ now (out .exit) ≡ putText place (now (text .entry)) (now (out .entry)) ⌝ }

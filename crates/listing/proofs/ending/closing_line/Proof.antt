@@ -1,7 +1,7 @@
 -- `listing::ending::closing_line` meets its contract: what is put, one right behind the other, is one put of all its bytes, and those are the closing
 -- line. Assumes nothing.
 use Prim.Native.Nat.{ℕ, _+_, _≤_}
-use mathlib.Core.Path.{_≡_, _∙_, ap, subst, sym}
+use mathlib.Core.Path.{_≡_, _∙_, ap}
 use mathlib.Core.List.{List, [], _∷_, _++_, append-assoc}
 use native.Mathlib.Nat.{zero-add}
 use native.Mathlib.Omega.{arith}
