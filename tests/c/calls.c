@@ -86,7 +86,7 @@ static void streams(void)
     const uint8_t wrong_check[12] = {0x7e, 0x01, 0x05, 0x01, 0x0a, 0x09, 0xc8, 0x7d, 0x5e, 0x2d, 0xbb, 0x7e};
     const uint8_t zero_count[3] = {0x7e, 0x01, 0x00};
     const uint8_t bad_escape[5] = {0x7e, 0x01, 0x05, 0x7d, 0x41};
-    const uint8_t losing[11] = {0x7e, 0x01, 0x05, 0x01, 0x0a, 0x09, 0xc8, 0x00, 0x7e, 0x7e, 0x7e};
+    const uint8_t behind_noise[11] = {0x7e, 0x01, 0x05, 0x01, 0x0a, 0x09, 0xc8, 0x00, 0x7e, 0x7e, 0x7e};
     uint8_t stream[23];
     uint8_t state[PULEVAGO_RECEIVER_SIZE];
     size_t place = 0;
@@ -99,7 +99,7 @@ static void streams(void)
     WANT(feed(state, bad_escape, 5, &place, &length) == 0);
 
     /* behind two flags case A's frame is not heard, behind three it is */
-    memcpy(stream, losing, 11);
+    memcpy(stream, behind_noise, 11);
     memcpy(stream + 10, frame_a, 12);
     WANT(feed(state, stream, 22, &place, &length) == 0);
     memcpy(stream + 11, frame_a, 12);
