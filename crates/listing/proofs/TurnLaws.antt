@@ -30,7 +30,7 @@ handed-packets AllowanceSpent s i = refl
 handed-packets ShortOutput s i = refl
 handed-packets InconsistentTaken s i = refl
 
-pub turn-heard : (c : Call) (s : Receiver) (stream : List ℕ) → Consistent s
+turn-heard : (c : Call) (s : Receiver) (stream : List ℕ) → Consistent s
     → heard s stream
     ≡ handedOut (called c s stream .reason) (called c s stream .state) ++ heard (called c s stream .state) (drop (called c s stream .taken) stream)
 turn-heard c s stream fits =

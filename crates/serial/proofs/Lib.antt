@@ -2,7 +2,6 @@ pub mod Computed
 pub mod Consistent
 pub mod Keeps
 pub mod Answers
-pub mod Core
 pub mod Run
 pub mod Table
 pub mod TakerLaws

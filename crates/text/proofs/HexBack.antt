@@ -68,7 +68,7 @@ hex-digits (b ∷ bs) h =
     and (lt-ltb _ 16 high) (and (lt-ltb _ 16 low) (hex-digits bs (λ (i : ℕ). h (suc i))))
 
 -- an even number of them
-pub hex-is-hex : (bs : List ℕ) → Bytes bs → isHex (hexAll bs) ≡ true
+hex-is-hex : (bs : List ℕ) → Bytes bs → isHex (hexAll bs) ≡ true
 hex-is-hex bs h = and (eq-eqb (length (hexAll bs) % 2) 0 (omega (arith, hex-length bs))) (hex-digits bs h)
 
 -- and these are the bytes

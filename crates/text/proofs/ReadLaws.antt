@@ -47,7 +47,7 @@ module _ (base : ℕ) (text : List ℕ) (i : ℕ) (all : allDigits base (drop i 
 -- ---- hex
 
 -- of what is left from the pair i on, its byte and the rest
-pub pair-next : (text : List ℕ) (i : ℕ) → 2 * i + 1 < length text
+pair-next : (text : List ℕ) (i : ℕ) → 2 * i + 1 < length text
     → hexBytes (drop (2 * i) text) ≡ pairValue (getD text (2 * i) 0) (getD text (2 * i + 1) 0) ∷ hexBytes (drop (2 * (i + 1)) text)
 unfolding hexBytes
 pair-next text i h =
@@ -71,7 +71,7 @@ no-pair (c ∷ d ∷ rest) h = absurd (omega arith)
 pub pairs-end : (text : List ℕ) (i : ℕ) → length text / 2 ≤ i → hexBytes (drop (2 * i) text) ≡ []
 pairs-end text i h = no-pair (drop (2 * i) text) (omega (arith, length-drop (2 * i) text))
 
-pub pairs-length : (text : List ℕ) → length (hexBytes text) ≡ length text / 2
+pairs-length : (text : List ℕ) → length (hexBytes text) ≡ length text / 2
 unfolding hexBytes
 pairs-length [] = refl
 pairs-length (c ∷ []) = refl
