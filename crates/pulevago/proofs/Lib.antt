@@ -1,3 +1,4 @@
 pub mod Lent
 pub mod Answers
 pub mod OneResult
+pub mod Wrong
