@@ -3,7 +3,7 @@
 use mathlib.Core.Path.{refl}
 use Rattle.usb.specs.Decode.{decodeAnswer}
 use Rattle.transfer.specs.Builder.{appendAnswer, appendOutput, usedAfter}
-use Rattle.transfer.specs.Computed.{PacketsAppended, TransfersWalked}
+use Rattle.transfer.specs.Computed.{AppendedTold, PacketsAppended, TransfersWalked, WalkedTold}
 use Rattle.transfer.specs.Walk.{walk, walkAnswer}
 
 pub transfers-walked : TransfersWalked
@@ -13,3 +13,9 @@ transfers-walked = (refl, refl, refl, refl)
 pub packets-appended : PacketsAppended
 unfolding appendAnswer appendOutput usedAfter
 packets-appended = (refl, refl, refl, refl, refl, refl, refl, refl, refl, refl)
+
+pub appended-told : AppendedTold
+appended-told = (refl, refl, refl)
+
+pub walked-told : WalkedTold
+walked-told = (λ n. refl, refl, refl)

@@ -5,7 +5,7 @@ pub mod Limit
 pub mod Offered
 pub mod OneResult
 pub mod OneWalk
-pub mod Refuted
 pub mod Transfers
 pub mod Turns
 pub mod WalkLaws
+pub mod Wrong

@@ -20,8 +20,8 @@ use Rattle.usb.specs.Laws.{DecodedAs}
 use Rattle.usb.specs.Numbers.{rxFailure}
 use Rattle.usb.proofs.DecodeLaws.{accepted, accepts, decides, refuses}
 use Rattle.usb.proofs.Headers.{decodes, header-first}
-use Rattle.transfer.specs.Transfers.{Joined, none, one-more, toEnd}
-use Rattle.transfer.specs.Transfers.{EndIsWhole, EndOrSeven, FoundInside, JoinedWalked, PlaceBeyond, PlaceStays, WalkEnds, WalkJoined, WalkStays}
+use Rattle.transfer.specs.Transfers.{Joined, none, one-more, toEnd, transferOf}
+use Rattle.transfer.specs.Transfers.{EndIsWhole, EndOrSeven, FiveTooFew, FoundInside, JoinedWalked, PlaceBeyond, PlaceStays, WalkEnds, WalkJoined, WalkStays}
 use Rattle.transfer.specs.Walk.{Walk, placeAfter, placeBehind, walk, walkAnswer, wholeWalk, yieldedBy}
 use Rattle.transfer.proofs.WalkLaws.{ended, found}
 
@@ -111,6 +111,11 @@ ends (suc k) t p h = elim (stands t p) [
 
 pub walk-ends : WalkEnds
 walk-ends t = ends _ t 0 (omega arith)
+
+-- five packets of no bytes have twenty bytes, and after four of them the fifth is found
+pub five-too-few : FiveTooFew
+unfolding walk walkAnswer decodeAnswer transferOf
+five-too-few h = omega (arith, ap length (h (transferOf ([] ∷ [] ∷ [] ∷ [] ∷ [] ∷ []))))
 
 -- a walk that has ended is not changed by more answers
 ended-stays : (m k : ℕ) (t : List ℕ) (p : ℕ) → k ≤ m → walk k t p .last .values ≡ [] → walk m t p ≡ walk k t p

@@ -1,16 +1,16 @@
--- What is proved of the walker over whole transfers (`proofs/Transfers.antt`), and of walker and builder together (`proofs/Offered.antt`); and of each, an
--- error that it does not make (`proofs/Refuted.antt`). Assumes nothing.
+-- What is proved of the walker over whole transfers (`proofs/Transfers.antt`), and of walker and builder together (`proofs/Offered.antt`).
+-- Assumes nothing.
 use Prim.Native.Nat.{ℕ, _+_, _≤_, _<_, _/_}
 use mathlib.Core.Path.{_≡_}
-use mathlib.Core.Bool.{cond, not}
+use mathlib.Core.Bool.{cond}
 use mathlib.Core.Logic.{_⊎_}
 use mathlib.Core.List.{List, [], _∷_, _++_}
 use lib.ListN.{length, take}
-use Rattle.checks.specs.Numbers.{Answer, answer, done}
+use Rattle.checks.specs.Numbers.{answer, done}
 use Rattle.checks.specs.Part.{Inside}
-use Rattle.usb.specs.Header.{framed, headerSize, headerWith, sendable}
-use Rattle.usb.specs.Numbers.{badPacket, noRoom, rxFailure}
-use Rattle.transfer.specs.Builder.{appendAnswer, appendOutput, fits, takes, usedAfter}
+use Rattle.usb.specs.Header.{framed, headerSize, headerWith}
+use Rattle.usb.specs.Numbers.{rxFailure}
+use Rattle.transfer.specs.Builder.{appendOutput, takes, usedAfter}
 use Rattle.transfer.specs.Walk.{Walk, foundPart, placeAfter, stopped, walk, walkAnswer, wholeWalk}
 
 -- ---- a walk over any transfer
@@ -67,27 +67,6 @@ EndIsWhole = (transfer : List ℕ) → wholeWalk transfer .last ≡ answer done 
 -- the converse: packets with their headers, joined, are yielded, each of them and in order, and then the walk says end
 abbrev pub JoinedWalked : Type 0
 JoinedWalked = (ps : List (List ℕ)) (transfer : List ℕ) → Joined ps transfer → wholeWalk transfer ≡ toEnd ps (length transfer)
-
--- ---- errors that the builder does not make
-
--- it looks at the room first, so that number 8 comes before number 6
-abbrev roomFirst : ℕ → ℕ → ℕ → Answer
-roomFirst size used room =
-    cond (not (fits size used room)) (answer noRoom [])
-    (cond (not (sendable size)) (answer badPacket [])
-    (answer done []))
-
--- what it answers is not that
-abbrev pub NotRoomFirst : Type 0
-NotRoomFirst = ((size used room : ℕ) → appendAnswer size used room ≡ roomFirst size used room) → ⊥
-
--- it moves the used count where there is no room
-abbrev countedAnyway : ℕ → ℕ → ℕ → ℕ
-countedAnyway size used room = cond (sendable size) (used + (size + headerSize)) used
-
--- nor is that its count
-abbrev pub NotCountedAnyway : Type 0
-NotCountedAnyway = ((size used room : ℕ) → usedAfter size used room ≡ countedAnyway size used room) → ⊥
 
 -- ---- a walk over what the builder made
 
