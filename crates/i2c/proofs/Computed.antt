@@ -2,7 +2,7 @@
 -- the words of a proof that no longer fits. Assumes nothing.
 use mathlib.Core.Path.{refl}
 use Rattle.checks.specs.Register.{bitStep, bitSteps, byteStep, checkFrom}
-use Rattle.i2c.specs.Computed.{Answered, FramesDecoded, FramesWritten, NearMisses, OutputWritten}
+use Rattle.i2c.specs.Computed.{Answered, DecodedTold, EncodedTold, FramesDecoded, FramesWritten, NearMisses, OutputWritten}
 use Rattle.i2c.specs.Decode.{bodyAnswer, decodeAnswer, payloadPart}
 use Rattle.i2c.specs.Encode.{encodeAnswer, encodeOutput}
 
@@ -25,3 +25,9 @@ frames-decoded = ((refl, refl), (refl, refl), (refl, refl))
 pub near-misses : NearMisses
 unfolding decodeAnswer bodyAnswer payloadPart checkFrom byteStep bitSteps bitStep
 near-misses = (refl, refl, refl, refl, refl, refl)
+
+pub encoded-told : EncodedTold
+encoded-told = (λ n. refl, refl, refl)
+
+pub decoded-told : DecodedTold
+decoded-told = (λ source. refl, refl)

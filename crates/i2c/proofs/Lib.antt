@@ -6,3 +6,4 @@ pub mod FrameLaws
 pub mod Received
 pub mod RoundTrip
 pub mod OneResult
+pub mod Wrong

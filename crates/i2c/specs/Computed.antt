@@ -1,5 +1,5 @@
--- What is computed, step by step, from the definitions: a frame with and without PEC, what encode answers and leaves in the output, and inputs that
--- are nearly frames. An error in a definition breaks these first. The PEC's value is that of another implementation, CRC-8/SMBUS of
+-- What is computed, step by step, from the definitions: a frame with and without PEC, what encode answers and leaves in the output, inputs that
+-- are nearly frames, and every answer's number and value. An error in a definition breaks these first. The PEC's value is that of another implementation, CRC-8/SMBUS of
 -- python3-crccheck. The proofs: `proofs/Computed.antt`. Assumes nothing.
 use Prim.Native.Nat.{ℕ}
 use mathlib.Core.Path.{_≡_}
@@ -8,19 +8,20 @@ use mathlib.Core.List.{List, [], _∷_, _++_}
 use lib.ListN.{replicate}
 use Rattle.checks.specs.Numbers.{answer, done}
 use Rattle.checks.specs.Part.{noPart}
+use Rattle.i2c.specs.declared.decoder.Decoded.the-variants.{From, InvalidInput}
 use Rattle.i2c.specs.declared.encoder.Encoded.the-variants.{BadAddress, BadArgument, Done}
-use Rattle.i2c.specs.Decode.{decodeAnswer, payloadPart}
-use Rattle.i2c.specs.Encode.{encodeAnswer, encodeOutput}
+use Rattle.i2c.specs.Decode.{decodeAnswer, decodedAnswer, payloadPart}
+use Rattle.i2c.specs.Encode.{encodeAnswer, encodeOutput, encodedAnswer}
 use Rattle.i2c.specs.Frame.{frame}
 use Rattle.i2c.specs.Laws.{Gives}
 use Rattle.i2c.specs.Numbers.{badAddress, badArgument, invalidInput}
 
 -- a packet
-abbrev packet : List ℕ
+abbrev pub packet : List ℕ
 packet = 0x01 ∷ 0x0a ∷ 0x09 ∷ 0xc8 ∷ 0x7e ∷ []
 
 -- its frame from 0x20 to 0x1d, written out
-abbrev written : List ℕ
+abbrev pub written : List ℕ
 written = 0x3a ∷ 0x0f ∷ 0x06 ∷ 0x41 ∷ 0x01 ∷ 0x0a ∷ 0x09 ∷ 0xc8 ∷ 0x7e ∷ []
 
 -- and its PEC
@@ -58,3 +59,12 @@ NearMisses = (decodeAnswer true [] ≡ answer invalidInput []) × (decodeAnswer 
     × (decodeAnswer false (0x3a ∷ 0x0f ∷ 0x02 ∷ 0x41 ∷ []) ≡ answer invalidInput [])
     × (decodeAnswer false (0x3a ∷ 0x0e ∷ 0x01 ∷ 0x41 ∷ []) ≡ answer invalidInput [])
     × (payloadPart false (0x3a ∷ 0x0e ∷ 0x01 ∷ 0x41 ∷ []) ≡ noPart)
+
+-- what encode answers, in document 01's numbers, with the length written: an `Encoded::number` that tells a bad address by a bad argument's number, or an
+-- `Encoded::value` that loses the length, breaks its contract
+abbrev pub EncodedTold : Type 0
+EncodedTold = ((n : ℕ) → encodedAnswer (Done n) ≡ answer 0 (n ∷ [])) × (encodedAnswer BadAddress ≡ answer 4 []) × (encodedAnswer BadArgument ≡ answer 3 [])
+
+-- and decode, with the source address: so does a `Decoded::number` that tells a refused frame by the number of a refused USB header, 7
+abbrev pub DecodedTold : Type 0
+DecodedTold = ((source : ℕ) → decodedAnswer (From source) ≡ answer 0 (source ∷ [])) × (decodedAnswer InvalidInput ≡ answer 5 [])

@@ -4,3 +4,4 @@ pub mod Encode
 pub mod Decode
 pub mod Laws
 pub mod Computed
+pub mod Wrong
