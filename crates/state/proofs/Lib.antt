@@ -2,3 +2,4 @@ pub mod State
 pub mod InBuffer
 pub mod StateLaws
 pub mod OneResult
+pub mod Wrong

@@ -1,3 +1,4 @@
 pub mod State
 pub mod InBuffer
 pub mod Laws
+pub mod Wrong
