@@ -3,3 +3,4 @@ pub mod Computed
 pub mod DecodeLaws
 pub mod Headers
 pub mod OneResult
+pub mod Wrong

@@ -3,3 +3,4 @@ pub mod Header
 pub mod Decode
 pub mod Laws
 pub mod Computed
+pub mod Wrong
