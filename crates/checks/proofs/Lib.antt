@@ -8,6 +8,7 @@ pub mod PacketErrorCode
 pub mod Part
 pub mod Numbers
 pub mod OneResult
+pub mod Wrong
 pub mod Bytes
 pub mod Choice
 pub mod Output

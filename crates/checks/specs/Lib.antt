@@ -8,3 +8,4 @@ pub mod Numbers
 pub mod Output
 pub mod Part
 pub mod OneResult
+pub mod Wrong
