@@ -1,6 +1,6 @@
 -- The texts are computed from the definitions. It rests on no law, so that an error in a definition shows here. Assumes nothing.
 use mathlib.Core.Path.{refl}
-use Rattle.text.specs.Computed.{DecimalIn, DecimalRefused, HexIn, HexRefused, PutThere, Written}
+use Rattle.text.specs.Computed.{DecimalIn, DecimalRefused, HexIn, HexPut, HexRefused, PutThere, Written}
 use Rattle.text.specs.Decimal.{digitsOf}
 use Rattle.text.specs.Hex.{hexAll}
 use Rattle.text.specs.Put.{putEnd, putText}
@@ -13,6 +13,10 @@ written = (refl, refl, refl, refl, refl)
 pub put-there : PutThere
 unfolding putEnd putText
 put-there = (refl, refl, refl, refl, refl, refl, refl, refl)
+
+pub hex-put : HexPut
+unfolding putEnd putText hexAll
+hex-put = (refl, refl, refl, refl, refl, refl)
 
 pub hex-in : HexIn
 unfolding hexRead hexOutput allDigits digitValue hexBytes

@@ -1,12 +1,12 @@
--- Laws of `putEnd` and `putText`: where the text fits they are the place behind it and a put; the output keeps its length; and puts that follow one
--- another are one put of all their bytes. Assumes nothing.
-use Prim.Native.Nat.{ℕ, _+_, _≤_, _<_}
-use mathlib.Core.Path.{_≡_, _∙_, ap, ap₂, refl, sym}
-use mathlib.Core.Bool.{Bool, true, false}
+-- Laws of `putEnd` and `putText`: where the text fits they are the place behind it and a put; and puts that follow one another are one put of all their
+-- bytes, into an output that keeps its length. Assumes nothing.
+use Prim.Native.Nat.{ℕ, _+_, _≤_}
+use mathlib.Core.Path.{_≡_, _∙_, ap, ap₂, sym}
+use mathlib.Core.Bool.{true, false}
 use mathlib.Core.List.{List, _++_}
 use native.Mathlib.Omega.{arith}
 use lib.ListN.{length, length-append}
-use borrow.Author.Tests.{le-leb, leb-true, lt-leb}
+use borrow.Author.Tests.{le-leb, leb-true}
 use Rattle.checks.specs.Output.{putAt}
 use Rattle.checks.proofs.Output.{length-put, put-put}
 use Rattle.io.specs.Counts.{Counts}
@@ -18,21 +18,6 @@ pub with-room : (place : ℕ) (text out : List ℕ) → place + length text ≤ 
     → (putEnd place text (length out) ≡ place + length text) × (putText place text out ≡ putAt place text out)
 unfolding putEnd putText
 with-room place text out h = let e = le-leb (place + length text) (length out) h in (simp e, simp e)
-
--- and where it does not
-pub without-room : (place : ℕ) (text out : List ℕ) → length out < place + length text
-    → (putEnd place text (length out) ≡ length out) × (putText place text out ≡ out)
-unfolding putEnd putText
-without-room place text out h = let e = lt-leb (place + length text) (length out) h in (simp e, simp e)
-
--- the output keeps its length
-pub length-put-text : (place : ℕ) (text out : List ℕ) → length (putText place text out) ≡ length out
-unfolding putText
-length-put-text place text out = go (fits place text (length out)) refl
-  where
-    go : (t : Bool) → fits place text (length out) ≡ t → length (putText place text out) ≡ length out
-    go true e = simp e (length-put place text out (leb-true _ _ e))
-    go false e = simp e
 
 -- what a function that puts a text says: the place behind it, the output, and that the place lies within it
 abbrev pub Puts : ℕ → List ℕ → List ℕ → ℕ → List ℕ → Type 0

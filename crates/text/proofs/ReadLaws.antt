@@ -88,7 +88,7 @@ pair-turn text i out b h room e =
     ∙ ap (λ (xs : List ℕ). putAt i xs out) (ap (λ (x : ℕ). x ∷ rest) e ∙ sym (pair-next text i h))
 
 -- what `read_hex` says: its answer, the output, and that the bytes lie within it
-abbrev pub ReadsHex : List ℕ → List ℕ → HexRead → List ℕ → Type 0
+abbrev ReadsHex : List ℕ → List ℕ → HexRead → List ℕ → Type 0
 ReadsHex text out said after = (said ≡ hexRead text (length out)) × ((after ≡ hexOutput text out) × Counts (said .count) after)
 
 pub hex-read : (text out after : List ℕ) → hexFits text (length out) ≡ true → length text / 2 ≤ length out → after ≡ atStart (hexBytes text) out

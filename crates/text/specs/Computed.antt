@@ -1,5 +1,6 @@
 -- What is computed, step by step, from the definitions: texts written out in ASCII, put and read, and texts that are nearly hex or decimal. An error in
--- a definition breaks these first. The proofs: `proofs/Computed.antt`. Assumes nothing.
+-- a definition breaks these first, and a function that answers anything else there breaks its contract. The proofs: `proofs/Computed.antt`. Assumes
+-- nothing.
 use Prim.Native.Nat.{ℕ}
 use mathlib.Core.Path.{_≡_}
 use mathlib.Core.Bool.{true, false}
@@ -25,17 +26,26 @@ abbrev pub largestFront : List ℕ
 largestFront =
     0x31 ∷ 0x38 ∷ 0x34 ∷ 0x34 ∷ 0x36 ∷ 0x37 ∷ 0x34 ∷ 0x34 ∷ 0x30 ∷ 0x37 ∷ 0x33 ∷ 0x37 ∷ 0x30 ∷ 0x39 ∷ 0x35 ∷ 0x35 ∷ 0x31 ∷ 0x36 ∷ 0x31 ∷ []
 
--- hex has two digits for each byte, in lower case; a zero is a digit of a number, and no number has one in front
+-- hex has two digits for each byte, the high one first and in lower case, and a line ends with a line feed and no carriage return; a zero is a digit of a
+-- number, and no number has one in front
 abbrev pub Written : Type 0
 Written = (hexAll someBytes ≡ someHex) × (lineOf someBytes ≡ someHex ++ (0x0a ∷ [])) × (decimal 0 ≡ 0x30 ∷ []) × (decimal 100 ≡ 0x31 ∷ 0x30 ∷ 0x30 ∷ [])
     × (decimal 18446744073709551615 ≡ largestFront ++ (0x35 ∷ []))
 
--- an output of three bytes: a text that ends at its end, one that goes a byte beyond it, and no text behind its end
+-- an output of three bytes: a text that ends at its end, one that ends before it, one that goes a byte beyond it, and no text behind its end. The place
+-- behind a text is not the output's end, and where it does not fit it is not the place that was asked
 abbrev pub PutThere : Type 0
 PutThere = (putEnd 1 (5 ∷ 6 ∷ []) 3 ≡ 3) × (putText 1 (5 ∷ 6 ∷ []) (1 ∷ 2 ∷ 3 ∷ []) ≡ 1 ∷ 5 ∷ 6 ∷ [])
     × (putEnd 0 (5 ∷ 6 ∷ []) 3 ≡ 2) × (putText 0 (5 ∷ 6 ∷ []) (1 ∷ 2 ∷ 3 ∷ []) ≡ 5 ∷ 6 ∷ 3 ∷ [])
     × (putEnd 2 (5 ∷ 6 ∷ []) 3 ≡ 3) × (putText 2 (5 ∷ 6 ∷ []) (1 ∷ 2 ∷ 3 ∷ []) ≡ 1 ∷ 2 ∷ 3 ∷ [])
     × (putEnd 4 [] 3 ≡ 3) × (putText 4 [] (1 ∷ 2 ∷ 3 ∷ []) ≡ 1 ∷ 2 ∷ 3 ∷ [])
+
+-- a byte's digits fill an output of two bytes, and nothing of them is put into one of one; with the line feed they fill three, and nothing is put into two.
+-- So the room is not tested for one digit or for three, nor without the line feed, and no byte is left out behind a line
+abbrev pub HexPut : Type 0
+HexPut = (putText 0 (hexAll (0xaf ∷ [])) (1 ∷ 2 ∷ []) ≡ 0x61 ∷ 0x66 ∷ []) × (putText 0 (hexAll (0xaf ∷ [])) (1 ∷ []) ≡ 1 ∷ [])
+    × (putEnd 0 (hexAll (0xaf ∷ [])) 3 ≡ 2) × (putText 0 (lineOf (0xaf ∷ [])) (1 ∷ 2 ∷ 3 ∷ []) ≡ 0x61 ∷ 0x66 ∷ 0x0a ∷ [])
+    × (putText 0 (lineOf (0xaf ∷ [])) (1 ∷ 2 ∷ []) ≡ 1 ∷ 2 ∷ []) × (putEnd 0 (lineOf (0xaf ∷ [])) 4 ≡ 3)
 
 -- ---- read
 
@@ -45,7 +55,7 @@ bytesRead n = record { ok = true; count = n }
 abbrev pub noBytes : HexRead
 noBytes = record { ok = false; count = 0 }
 
--- a text with its room, which leaves the bytes beyond it; and no digit at all
+-- a text with its room, which leaves the bytes beyond it: the first digit of a pair is the high one; and no digit at all
 abbrev pub HexIn : Type 0
 HexIn = (hexRead someHex 3 ≡ bytesRead 3) × (hexOutput someHex (1 ∷ 2 ∷ 3 ∷ 4 ∷ []) ≡ 0x09 ∷ 0xaf ∷ 0xff ∷ 4 ∷ []) × (hexRead [] 0 ≡ bytesRead 0)
 
