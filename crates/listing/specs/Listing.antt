@@ -7,7 +7,7 @@ use lib.ListN.{length}
 use Rattle.checks.specs.Numbers.{Answer, answer, done, inconsistent, shortOutput}
 use Rattle.io.specs.Counts.{Counts}
 use Rattle.serial.specs.declared.receiver.Receiver.{Receiver}
-use Rattle.serial.specs.Receiver.{consistentOf, freshOf}
+use Rattle.serial.specs.Receiver.{consistentOf, freshOf, storedSize}
 use Rattle.serial.specs.Run.{heard, runOf}
 use Rattle.listing.specs.declared.lines.Lines.{Lines}
 use Rattle.listing.specs.declared.lines.Lines.the-variants.{Done, ShortOutput, Inconsistent}
@@ -25,9 +25,13 @@ Within (Done n) out = Counts n out
 Within ShortOutput out = Unit {0}
 Within Inconsistent out = Unit {0}
 
--- the room asked for an input of so many bytes: two digits for each of them, and for each of the 259 bytes that may be stored before it
+-- the room for what may be stored before an input: two digits for each of the 259 stored bytes
+abbrev pub storedText : ℕ
+storedText = 2 * storedSize
+
+-- the room asked for an input of so many bytes: two digits for each of them, and that
 abbrev pub roomFor : ℕ → ℕ
-roomFor size = 2 * size + 2 * 259
+roomFor size = 2 * size + storedText
 
 -- an output of `room` bytes has it
 abbrev pub roomy : ℕ → ℕ → Bool

@@ -14,6 +14,10 @@ ghost use Rattle.listing.specs.Turn.{CopiedWithin, added, copiedOut, nex
 use framing::PACKET_MOST;
 use serial::Reason;
 use serial::Receiver;
+use serial::STORED_SIZE;
+
+// The room for what may be stored before an input: two digits for each stored byte.
+const STORED_TEXT: usize = 2 * STORED_SIZE;
 
 // What `list` answers: the length of the text, or number 2 or 9.
 pub enum Lines {
@@ -53,14 +57,14 @@ pub struct Listed {
     pub state: Receiver,
 }
 
-// Whether an output of `room` bytes has the room that an input of `size` bytes asks: two bytes for each of them, and 518 more.
+// Whether an output of `room` bytes has the room that an input of `size` bytes asks: two bytes for each of them, and the room for what may be stored.
 fn has_room(size: usize, room: usize) -> bool
     ensures { λ r. ⌜ r ≡ roomy size room ⌝ }
 {
-    if room < 518 {
+    if room < STORED_TEXT {
         return false;
     }
-    size <= (room - 518) / 2
+    size <= (room - STORED_TEXT) / 2
 }
 
 // What the line of a packet makes of a text: the place behind it, and the packets, one or none.
