@@ -6,7 +6,7 @@ use mathlib.Core.List.{List}
 use native.Mathlib.Omega.{arith}
 use lib.ListN.{getD}
 use Rattle.checks.specs.Register.{bitStep, bitSteps, byteStep, checkFrom}
-use Rattle.framing.specs.Computed.{CaseAFrame, FlagAsCheck, FlagAsCount, LengthFirst, SomethingWritten}
+use Rattle.framing.specs.Computed.{CaseAFrame, FlagAsCheck, FlagAsCount, LengthFirst, LengthsAnswered, NumbersTold, RestKept, SomethingWritten}
 use Rattle.framing.specs.Frame.{escaped, escapedAll, frame}
 use Rattle.framing.specs.Writer.{outputOf, writerAnswer}
 
@@ -22,6 +22,13 @@ pub flag-as-count : FlagAsCount
 unfolding frame escapedAll escaped checkFrom byteStep bitSteps bitStep
 flag-as-count = refl
 
+pub numbers-told : NumbersTold
+numbers-told n = (refl, refl, refl, refl, refl, refl)
+
+pub lengths-answered : LengthsAnswered
+unfolding writerAnswer frame escapedAll escaped
+lengths-answered = (refl, refl, refl, refl, refl, refl)
+
 pub length-first : LengthFirst
 unfolding writerAnswer
 length-first = refl
@@ -29,3 +36,7 @@ length-first = refl
 pub something-written : SomethingWritten
 unfolding outputOf frame
 something-written e = omega (arith, ap (λ (out : List ℕ). getD out 0 0) e)
+
+pub rest-kept : RestKept
+unfolding outputOf frame escapedAll escaped
+rest-kept = refl
