@@ -3,10 +3,12 @@
 use mathlib.Core.Path.{ap, refl}
 use native.Mathlib.Omega.{arith}
 use lib.ListN.{getD}
+use Rattle.checks.specs.Register.{bitStep, bitSteps, byteStep, checkFrom}
+use Rattle.framing.specs.Frame.{escaped, escapedAll, frame}
 use Rattle.serial.specs.declared.receiver.Receiver.{Receiver}
-use Rattle.serial.specs.Computed.{Fitting, NotFitting, NotFresh, StepRefuses, TakerAtLimits}
-use Rattle.serial.specs.Receiver.{consistentOf, fitsAt, positionNumber, rowOf, stepOf}
-use Rattle.serial.specs.Taker.{takeFrom, takenOf}
+use Rattle.serial.specs.Computed.{Fitting, NotFitting, NotFresh, OutcomeTold, PacketHandedOut, ReasonTold, StepRefuses, TakerAtLimits}
+use Rattle.serial.specs.Receiver.{agreesOf, consistentOf, fitsAt, positionNumber, rowOf, stepOf}
+use Rattle.serial.specs.Taker.{copiedOf, takeFrom, takenOf}
 
 pub not-fresh : NotFresh
 not-fresh = (
@@ -29,3 +31,13 @@ step-refuses b = (refl, refl)
 pub taker-at-limits : TakerAtLimits
 unfolding takenOf takeFrom stepOf consistentOf fitsAt rowOf
 taker-at-limits = (refl, refl, refl, refl, refl, refl, refl)
+
+pub packet-handed-out : PacketHandedOut
+unfolding takenOf takeFrom copiedOf stepOf consistentOf fitsAt rowOf agreesOf frame escapedAll escaped checkFrom byteStep bitSteps bitStep
+packet-handed-out = (refl, refl, refl)
+
+pub outcome-told : OutcomeTold
+outcome-told n = (refl, refl, refl, refl, refl, refl)
+
+pub reason-told : ReasonTold
+reason-told n = (refl, refl, refl, refl, refl, refl, refl, refl, refl, refl)
