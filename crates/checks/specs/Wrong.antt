@@ -47,7 +47,8 @@ abbrev pub FrameCheckDiffers : Type 0
 FrameCheckDiffers = NotSame frameCheck (startedWith 0 frameRegister) × NotSame frameCheck (byPolynomial 0x1021 frameRegister)
     × NotSame frameCheck (complemented 0xffff frameRegister) × NotSame frameCheck (lastLeftOut frameRegister)
 
--- the PEC does not start with ones, is not by another polynomial of CRC-8, is not complemented, and leaves no byte out: nor does `pec`
+-- the PEC does not start with ones, is not by another polynomial of CRC-8, is not complemented, and leaves no byte out: a `pec` that does
+-- one of these breaks its contract
 abbrev pub PecDiffers : Type 0
 PecDiffers = NotSame pecOf (startedWith 0xff pecRegister) × NotSame pecOf (byPolynomial 0x31 pecRegister)
     × NotSame pecOf (complemented 0xff pecRegister) × NotSame pecOf (lastLeftOut pecRegister)
