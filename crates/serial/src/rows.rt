@@ -247,11 +247,13 @@ impl Head {
     {
         let mut head = self;
         let mut i = 0;
+        // One test for each byte, for speed; which of the two it was is asked once.
+        let end = lesser(input.len(), allowance);
         let cause = loop {
-            if input.len() <= i {
-                break Cause::InputEnded;
-            }
-            if allowance <= i {
+            if end <= i {
+                if input.len() <= i {
+                    break Cause::InputEnded;
+                }
                 break Cause::AllowanceSpent;
             }
             let moved = head.advance(stored, input[i]);
@@ -282,6 +284,13 @@ impl Head {
             stored,
         }
     }
+}
+
+// The lesser of two numbers.
+fn lesser(a: usize, b: usize) -> usize
+    ensures { λ r. ⌜ (r ≤ a) × (r ≤ b) × (r < a → r ≡ b) ⌝ }
+{
+    if a <= b { a } else { b }
 }
 
 // Two bytes as one number, the high one first.

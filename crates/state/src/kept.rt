@@ -18,8 +18,7 @@ pub fn step(bytes: &mut [u8], b: u8) -> Outcome
 {
     let stepped = load(bytes).step(b);
     let outcome = stepped.outcome;
-    let receiver = stepped.state;
-    store(receiver, bytes);
+    store(stepped.state, bytes);
     outcome
 }
 
@@ -39,8 +38,8 @@ pub fn take(bytes: &mut [u8], input: &[u8], allowance: usize, out: &mut [u8]) ->
 {
     let taken = load(bytes).take(input, allowance, out);
     let reason = taken.reason;
-    let receiver = taken.state;
-    store(receiver, bytes);
+    // Not through a local of its own, which would be one more copy of the state.
+    store(taken.state, bytes);
     Took {
         reason,
         taken: taken.taken,

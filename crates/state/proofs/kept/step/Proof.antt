@@ -20,7 +20,7 @@ same-length c = search needs
 returns : tie.Need-returns
 returns c =
     let k = c .before .before in
-    let s = k .before .before .before in
+    let s = k .before .before in
     let l = s .before in
     let a = l .before .before .before .args in
     step-gives (a .b) (now (a .bytes)) _ (l .load .result) (s .step .result) (l .load .ensures) (s .step .ensures .0) (s .step .ensures .1) (k .store .ensures)

@@ -23,7 +23,7 @@ same-length-2 c = search needs
 returns : tie.Need-returns
 returns c =
     let k = c .before .before in
-    let t = k .before .before .before .before .before in
+    let t = k .before .before .before .before in
     let l = t .before .before in
     let a = l .before .before .before .before .before .args in
     let e = t .take .ensures in

@@ -18,31 +18,34 @@ use Rattle.serial.proofs.rows.Head.take_bytes.Statement.{statement}
 use Rattle.serial.proofs.rows.Head.take_bytes.Tie as tie
 
 abbrev Inv-loop : tie.InvT-loop
-Inv-loop stored₀ input allowance head₀ i₀ stored head i =
+Inv-loop stored₀ input allowance head₀ i₀ end stored head i =
     (takeFrom (drop i input) (allowance - i) (held head stored) i ≡ takeFrom input allowance (held head₀ stored₀) 0)
     × (i ≤ length input) × (i ≤ allowance) × Consistent (held head stored)
     × Took input allowance (held head₀ stored₀) (takeFrom input allowance (held head₀ stored₀) 0)
 
 abbrev μ-loop : tie.MeasureT-loop
-μ-loop stored₀ input allowance head₀ i₀ stored head i = length input - i
+μ-loop stored₀ input allowance head₀ i₀ end stored head i = length input - i
+
+lesser-requires : tie.Need-lesser-requires Inv-loop μ-loop
+lesser-requires c κs = search needs
 
 loop-holds : tie.Need-loop-holds Inv-loop μ-loop
 loop-holds c =
-    let a = c .before .before in
+    let a = c .before .before .before in
     let s = held (a .args .self) (a .args .stored .now) in
     let consistent : Consistent s = record { sized = a .pre .0; fits = a .pre .1 } in (
       ap (λ (k : ℕ). takeFrom (a .args .input .now) k s 0) (sub-zero (a .args .allowance)),
       omega arith,
       omega arith,
       consistent,
-      took (a .args .input .now) (a .args .allowance) s consistent (λ i. c .shared-slice-known .given i .fits),
+      took (a .args .input .now) (a .args .allowance) s consistent (λ i. c .before .shared-slice-known .given i .fits),
     )
 
 shared-slice-read-advance : tie.Need-shared-slice-read-advance Inv-loop μ-loop
 shared-slice-read-advance c = search needs
 
 advance-requires : tie.Need-advance-requires Inv-loop μ-loop
-advance-requires c κs = (c .before .before .before .before .loop .inv .3 .sized, c .before .before .before .before .loop .inv .3 .fits)
+advance-requires c κs = (c .before .before .before .loop .inv .3 .sized, c .before .before .before .loop .inv .3 .fits)
 
 add-i : tie.Need-add-i Inv-loop μ-loop
 add-i c = search needs
@@ -55,8 +58,8 @@ loop-less c = search needs
 
 loop-again : tie.Need-loop-again Inv-loop μ-loop
 loop-again c =
-    let l = c .before .before .before .before .before .before .before .before .before .before in
-    let a = c .before .before .before .before .before .before .before .before .before .before .before .before .before .args in
+    let l = c .before .before .before .before .before .before .before .before .before in
+    let a = l .before .before .before .before .args in
     let here : l .loop .i < length (a .input .now) = omega arith in
     let allowed : l .loop .i < a .allowance = omega arith in
     let r = c .before .before .before .before .before .advance in
@@ -77,8 +80,8 @@ same-length c = search needs
 
 returns : tie.Need-returns Inv-loop μ-loop
 returns c =
-    let l = c .before in
-    let a = c .before .before .before .before .args in
+    let l = c .before .before in
+    let a = l .before .before .before .before .args in
     stopped-from (a .input .now) (a .allowance) _ _ InputEnded _
     (taken-ended (a .input .now) (a .allowance) (l .loop .i) (held (l .loop .head) (l .loop .stored)) (omega arith)
     ∙ l .loop .inv .0) (l .loop .inv .4)
@@ -89,7 +92,8 @@ same-length-2 c = search needs
 returns-2 : tie.Need-returns-2 Inv-loop μ-loop
 returns-2 c =
     let l = c .before .before in
-    let a = c .before .before .before .before .before .args in
+    let a = l .before .before .before .before .args in
+    let spent = l .before .lesser .ensures .2 (omega arith) in
     stopped-from (a .input .now) (a .allowance) _ _ AllowanceSpent _
     (taken-spent (a .input .now) (a .allowance) (l .loop .i) (held (l .loop .head) (l .loop .stored)) (omega arith) (omega arith)
     ∙ l .loop .inv .0) (l .loop .inv .4)
@@ -99,8 +103,8 @@ same-length-3 c = search needs
 
 returns-3 : tie.Need-returns-3 Inv-loop μ-loop
 returns-3 c =
-    let l = c .before .before .before .before .before .before .before .before .before .before .before in
-    let a = c .before .before .before .before .before .before .before .before .before .before .before .before .before .before .args in
+    let l = c .before .before .before .before .before .before .before .before .before .before in
+    let a = l .before .before .before .before .args in
     let here : l .loop .i < length (a .input .now) = omega arith in
     let allowed : l .loop .i < a .allowance = omega arith in
     let r = c .before .before .before .before .before .before .advance in
@@ -114,6 +118,7 @@ take-bytes-spec =
     (tie.spec
     Inv-loop
     μ-loop
+    lesser-requires
     loop-holds
     shared-slice-read-advance
     advance-requires
