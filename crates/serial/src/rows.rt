@@ -7,8 +7,9 @@ ghost use Prim.Native.Nat.{ℕ, _+_, _*_, _<_, _≤_};
 ghost use lib.ListN.{length, take};
 ghost use Rattle.checks.specs.Numbers.{answer, done};
 ghost use Rattle.framing.specs.Frame.{packetMost};
+ghost use Rattle.serial.specs.declared.receiver.Receiver.{Receiver};
 ghost use Rattle.serial.specs.Answers.{firstLength, reasonAnswer};
-ghost use Rattle.serial.specs.Receiver.{agreesOf, atFrameEnd, byteCountRow, changed, checkRow, consistentOf, dataEscapedRow, dataRow, frameSearchRow, moveTo, serialRevisionRow, stepOf, storeData, storeUntil, storedSize};
+ghost use Rattle.serial.specs.Receiver.{agreesOf, atFrameEnd, begun, byteCountRow, changed, checkRow, consistentOf, dataEscapedRow, dataRow, frameSearchRow, moveTo, quiet, serialRevisionRow, stepOf, storeData, storeUntil, storedSize};
 ghost use Rattle.serial.specs.Core.{Bounded, Leads, held, heldStep, heldTaken, reasonOf};
 ghost use Rattle.serial.specs.Run.{outsOf};
 ghost use Rattle.serial.specs.Taker.{takeFrom};
@@ -61,6 +62,16 @@ impl Head {
         self.changed(position, self.count, self.len)
     }
 
+    // Nothing is handed out.
+    fn quiet(self) -> Moved
+        ensures { λ r. ⌜ ((stored : List ℕ) → heldStep r stored ≡ quiet (held self stored)) ⌝ }
+    {
+        Moved {
+            event: Event::Nothing,
+            head: self,
+        }
+    }
+
     // A byte is stored; then the position is `full` once the stored length is the count and `more`, until then `short`.
     fn store_until(
         self,
@@ -76,11 +87,11 @@ impl Head {
         let count = self.count;
         let len = self.len;
         stored[len] = b;
-        if len + 1 == count + more {
-            self.changed(full, count, len + 1)
-        } else {
-            self.changed(short, count, len + 1)
+        let next = len + 1;
+        if next == count + more {
+            return self.changed(full, count, next);
         }
+        self.changed(short, count, next)
     }
 
     // A packet's byte is stored; Check once the count is reached.
@@ -117,13 +128,7 @@ impl Head {
         ensures { λ r. ⌜ held r (now (stored .exit)) ≡ serialRevisionRow b (held self (now (stored .entry))) ⌝ }
     {
         stored[0] = b;
-        if b == MCTP_SERIAL_REVISION {
-            self.changed(Position::ByteCount, 0, 1)
-        } else if b == FRAMING_FLAG {
-            self.changed(Position::SerialRevision, 0, 1)
-        } else {
-            self.changed(Position::FrameSearch, 0, 1)
-        }
+        self.changed(revised(b), 0, 1)
     }
 
     // A zero leads to FrameSearch and stores nothing; any other byte, also a flag or an escape, is the count.
@@ -210,30 +215,12 @@ impl Head {
     {
         let position = self.position;
         match position {
-            Position::FrameSearch => Moved {
-                event: Event::Nothing,
-                head: self.frame_search(b),
-            },
-            Position::SerialRevision => Moved {
-                event: Event::Nothing,
-                head: self.serial_revision(stored, b),
-            },
-            Position::ByteCount => Moved {
-                event: Event::Nothing,
-                head: self.byte_count(stored, b),
-            },
-            Position::Data => Moved {
-                event: Event::Nothing,
-                head: self.data(stored, b),
-            },
-            Position::DataEscaped => Moved {
-                event: Event::Nothing,
-                head: self.data_escaped(stored, b),
-            },
-            Position::Check => Moved {
-                event: Event::Nothing,
-                head: self.check(stored, b),
-            },
+            Position::FrameSearch => self.frame_search(b).quiet(),
+            Position::SerialRevision => self.serial_revision(stored, b).quiet(),
+            Position::ByteCount => self.byte_count(stored, b).quiet(),
+            Position::Data => self.data(stored, b).quiet(),
+            Position::DataEscaped => self.data_escaped(stored, b).quiet(),
+            Position::Check => self.check(stored, b).quiet(),
             Position::FrameEnd => self.frame_end(stored, b),
         }
     }
@@ -284,6 +271,19 @@ impl Head {
             stored,
         }
     }
+}
+
+// Where a byte leads from SerialRevision.
+fn revised(b: u8) -> Position
+    ensures { λ r. ⌜ ((s : Receiver) → begun b r s ≡ serialRevisionRow b s) ⌝ }
+{
+    if b == MCTP_SERIAL_REVISION {
+        return Position::ByteCount;
+    }
+    if b == FRAMING_FLAG {
+        return Position::SerialRevision;
+    }
+    Position::FrameSearch
 }
 
 // The lesser of two numbers.

@@ -7,29 +7,23 @@ use Rattle.serial.proofs.rows.Head.store_until.Tie as tie
 slice-write-stored : tie.Need-slice-write-stored
 slice-write-stored c = search needs
 
+add-next : tie.Need-add-next
+add-next c = search needs
+
 add-if1 : tie.Need-add-if1
 add-if1 c = search needs
 
-add-if1-2 : tie.Need-add-if1-2
-add-if1-2 c = search needs
-
-add-changed : tie.Need-add-changed
-add-changed c = search needs
-
 changed-requires : tie.Need-changed-requires
 changed-requires c κs = search needs
-
-add-changed-2 : tie.Need-add-changed-2
-add-changed-2 c = search needs
-
-changed-requires-2 : tie.Need-changed-requires-2
-changed-requires-2 c κs = search needs
 
 same-length : tie.Need-same-length
 same-length c = search needs
 
 returns : tie.Need-returns
 returns c = simp (eq-eqb _ _ (c .before .if1 .taken)) (c .changed .ensures _)
+
+changed-requires-2 : tie.Need-changed-requires-2
+changed-requires-2 c κs = search needs
 
 same-length-2 : tie.Need-same-length-2
 same-length-2 c = search needs
@@ -42,13 +36,11 @@ store-until-spec =
     tie.close
     (tie.spec
     slice-write-stored
+    add-next
     add-if1
-    add-if1-2
-    add-changed
     changed-requires
-    add-changed-2
-    changed-requires-2
     same-length
     returns
+    changed-requires-2
     same-length-2
     returns-2)
