@@ -1,116 +1,169 @@
-// The calls that a vector can name: how many arguments each has, in how many ways it is replayed, and its results as text.
-ghost use Prim.Native.Nat.{_≤_};
-use crate::check_values;
-use crate::i2c_calls;
-use crate::serial_calls;
-use crate::streams;
-use crate::text;
-use crate::usb_calls;
-use crate::walks;
+// The calls that a vector can name: each puts its results behind the text so far.
+use crate::arguments::Arguments;
+use crate::arguments::LONGEST;
+use crate::arguments::Numbers;
+use crate::fields;
+use crate::receivers;
+use crate::results;
+use crate::results::Results;
+use serial::Receiver;
 
-// A call, or that the name is no call's.
-pub(crate) enum Call {
-    Check,
-    Pec,
-    Frame,
-    Feed,
-    Step,
-    Take,
-    I2cEncode,
-    I2cDecode,
-    UsbHeader,
-    UsbDecode,
-    UsbAppend,
-    UsbWalk,
-    Unknown,
-}
+// A row for each call, and for each way to replay it: its name, the form of its arguments, and the way's name where there are several.
+pub(crate) const CALLS: [u8; 269] =
+    *b"check;b=;, in one call|check;b=;, in two calls|pec;b=|frame;br=|\
+    feed;b=;, byte by byte|feed;b=;, in one call|feed;b=;, a byte a call|feed;b=;, in pieces|step;pnnsx=|take;pnnsbnr=|\
+    i2c-encode;xxkbr=|i2c-decode;kb=|usb-header;nr=|usb-decode;b=|usb-append;bnr=|usb-walk;bn=";
 
-// The call that has the name.
-pub(crate) fn named(name: &[u8]) -> Call {
-    if text::same(name, b"check") {
-        return Call::Check;
-    }
-    if text::same(name, b"pec") {
-        return Call::Pec;
-    }
-    if text::same(name, b"frame") {
-        return Call::Frame;
-    }
-    if text::same(name, b"feed") {
-        return Call::Feed;
-    }
-    if text::same(name, b"step") {
-        return Call::Step;
-    }
-    if text::same(name, b"take") {
-        return Call::Take;
-    }
-    if text::same(name, b"i2c-encode") {
-        return Call::I2cEncode;
-    }
-    if text::same(name, b"i2c-decode") {
-        return Call::I2cDecode;
-    }
-    if text::same(name, b"usb-header") {
-        return Call::UsbHeader;
-    }
-    if text::same(name, b"usb-decode") {
-        return Call::UsbDecode;
-    }
-    if text::same(name, b"usb-append") {
-        return Call::UsbAppend;
-    }
-    if text::same(name, b"usb-walk") {
-        return Call::UsbWalk;
-    }
-    Call::Unknown
-}
-
-// How many fields the call's arguments take; a receiver's state takes four.
-pub(crate) fn arguments(call: Call) -> usize
-    ensures { λ r. ⌜ r ≤ 7 ⌝ }
-{
+// How many rows the call has, from its first one on.
+pub(crate) fn ways(call: usize) -> usize {
     match call {
-        Call::Check => 1,
-        Call::Pec => 1,
-        Call::Frame => 2,
-        Call::Feed => 1,
-        Call::Step => 5,
-        Call::Take => 7,
-        Call::I2cEncode => 5,
-        Call::I2cDecode => 2,
-        Call::UsbHeader => 2,
-        Call::UsbDecode => 1,
-        Call::UsbAppend => 3,
-        Call::UsbWalk => 2,
-        Call::Unknown => 0,
-    }
-}
-
-// In how many ways the call is replayed.
-pub(crate) fn ways(call: Call) -> usize {
-    match call {
-        Call::Check => 2,
-        Call::Feed => 4,
+        0 => 2,
+        4 => 4,
         _ => 1,
     }
 }
 
-// Puts the text of the call's results, replayed in the way, at the start of out, and answers its length; 0 where the arguments are not of the form.
-pub(crate) fn results(call: Call, way: usize, line: &[u8], out: &mut [u8]) -> usize {
-    match call {
-        Call::Check => check_values::check(line, way, out),
-        Call::Pec => check_values::pec(line, out),
-        Call::Frame => serial_calls::frame(line, out),
-        Call::Feed => streams::feed(line, way, out),
-        Call::Step => serial_calls::step(line, out),
-        Call::Take => serial_calls::take(line, out),
-        Call::I2cEncode => i2c_calls::encode(line, out),
-        Call::I2cDecode => i2c_calls::decode(line, out),
-        Call::UsbHeader => usb_calls::header(line, out),
-        Call::UsbDecode => usb_calls::decode(line, out),
-        Call::UsbAppend => usb_calls::append(line, out),
-        Call::UsbWalk => walks::walk(line, out),
-        Call::Unknown => 0,
+// The results of the call in the way that the row says.
+pub(crate) fn results(arguments: Arguments, row: usize) -> Results {
+    let numbers = arguments.numbers;
+    let stored = arguments.stored;
+    let all = arguments.bytes;
+    put(
+        results::none(),
+        row,
+        numbers,
+        arguments.room,
+        receivers::state_of(numbers, stored),
+        fields::start(&all, arguments.count),
+    )
+}
+
+fn put(
+    to: Results,
+    row: usize,
+    numbers: Numbers,
+    room: usize,
+    state: Receiver,
+    bytes: &[u8],
+) -> Results {
+    match row {
+        0 => check(to, bytes, bytes.len()),
+        1 => check(to, bytes, bytes.len() / 2),
+        2 => pec(to, bytes),
+        3 => frame(to, bytes, room),
+        4 => receivers::by_step(to, bytes),
+        5 => receivers::by_take(to, bytes, LONGEST, LONGEST),
+        6 => receivers::by_take(to, bytes, 1, 1),
+        7 => receivers::by_take(to, bytes, 7, 5),
+        8 => receivers::step(to, state, numbers.fourth),
+        9 => receivers::take(to, state, bytes, numbers.fourth, room),
+        10 => i2c_encode(to, numbers, bytes, room),
+        11 => i2c_decode(to, bytes, numbers.first == 1),
+        12 => usb_header(to, numbers.first, room),
+        13 => usb_decode(to, bytes),
+        14 => usb_append(to, bytes, numbers.first, room),
+        _ => usb_walk(to, bytes, numbers.first),
     }
+}
+
+// An output before a call, filled so that a byte that was not written is known: the byte at place i is (160 + i) mod 256.
+pub(crate) fn filled() -> [u8; LONGEST] {
+    let mut out = [0; LONGEST];
+    let mut i = 0;
+    while i < LONGEST {
+        out[i] = ((160 + i) % 256) as u8;
+        i += 1;
+    }
+    out
+}
+
+// `check BYTES`, in two calls, which part the bytes at the cut: FRAMECHECK PEC.
+fn check(to: Results, bytes: &[u8], cut: usize) -> Results {
+    let first = fields::start(bytes, cut);
+    let second = fields::behind(bytes, cut);
+    let frame_check = checks::frame_check_from(checks::frame_check(first), second);
+    let values = [(frame_check / 256) as u8, (frame_check % 256) as u8];
+    to.bytes(&values)
+        .byte(checks::pec_from(checks::pec(first), second))
+}
+
+// `pec BYTES`, for documents that print no frame check: PEC.
+fn pec(to: Results, bytes: &[u8]) -> Results {
+    to.byte(checks::pec(bytes))
+}
+
+// `frame PACKET ROOM`: NUMBER LENGTH OUT.
+fn frame(to: Results, packet: &[u8], room: usize) -> Results {
+    let mut out = filled();
+    let size = room % (LONGEST + 1);
+    let written = framing::frame_to_serial(packet, &mut out[0..size]);
+    to.answer(written.number(), written.value()).out(out, size)
+}
+
+// `i2c-encode OWN DEST KIND PAYLOAD ROOM`: NUMBER LENGTH OUT.
+fn i2c_encode(to: Results, numbers: Numbers, payload: &[u8], room: usize) -> Results {
+    let mut out = filled();
+    let size = room % (LONGEST + 1);
+    let own = (numbers.first % 256) as u8;
+    let dest = (numbers.second % 256) as u8;
+    let encoded = i2c::encode(own, dest, payload, &mut out[0..size], numbers.third == 1);
+    to.answer(encoded.number(), encoded.value()).out(out, size)
+}
+
+// `i2c-decode KIND INPUT`: NUMBER SOURCE PAYLOAD. A refusal has an empty part, which is written as any other.
+fn i2c_decode(to: Results, input: &[u8], pec: bool) -> Results {
+    let decoded = i2c::decode(input, pec);
+    let number = decoded.number();
+    let source = [(decoded.value() % 256) as u8];
+    let given = fields::start(&source, (number == checks::DONE) as usize);
+    to.number(number as usize)
+        .bytes(given)
+        .bytes(i2c::payload(input, pec))
+}
+
+// `usb-header SIZE ROOM`: NUMBER OUT.
+fn usb_header(to: Results, packet_size: usize, room: usize) -> Results {
+    let mut out = filled();
+    let size = room % (LONGEST + 1);
+    let headed = usb::header(packet_size, &mut out[0..size]);
+    to.number(headed.number() as usize).out(out, size)
+}
+
+// `usb-decode INPUT`: NUMBER LENGTH PACKET REMAINDER. A refusal has empty parts, which are written as any other.
+fn usb_decode(to: Results, input: &[u8]) -> Results {
+    let decoded = usb::decode(input);
+    to.answer(decoded.number(), decoded.value())
+        .bytes(usb::packet(input))
+        .bytes(usb::remainder(input))
+}
+
+// `usb-append PACKET USED ROOM`: NUMBER USED OUT.
+fn usb_append(to: Results, packet: &[u8], used: usize, room: usize) -> Results {
+    let mut out = filled();
+    let size = room % (LONGEST + 1);
+    let built = transfer::append(packet, &mut out[0..size], used);
+    let appended = built.answer;
+    to.number(appended.number() as usize)
+        .number(built.used)
+        .out(out, size)
+}
+
+// `usb-walk TRANSFER PLACE`: PACKETS NUMBER PLACE, the last two from where the walk stopped: a walker that moves from there says another place. Each
+// packet takes four bytes or more, which bounds the turns.
+fn usb_walk(to: Results, transfer: &[u8], start: usize) -> Results {
+    let mut results = to;
+    let mut place = start;
+    let mut turns = transfer.len() / 4 + 1;
+    while 0 < turns {
+        let part = transfer::part_at(transfer, place);
+        let walked = transfer::walk_at(transfer, place);
+        results = results.packet((walked.found() == 1) | (0 < part.len()), place, part);
+        place = transfer::place_after(transfer, place);
+        turns -= 1;
+    }
+    let stopped = transfer::walk_at(transfer, place);
+    results
+        .closed()
+        .number(stopped.number() as usize)
+        .number(place)
 }

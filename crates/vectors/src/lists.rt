@@ -1,96 +1,85 @@
 // A stored list, vector after vector.
+use crate::arguments;
+use crate::arguments::Arguments;
 use crate::calls;
-use crate::calls::Call;
+use crate::fields;
 use crate::report;
-use crate::text;
+use crate::results::Results;
 
-// Room for the text of a vector's results, longer than any line may be.
-const ROOM: usize = 16384;
-
-// What a vector, or one way to replay it, shows.
-enum Seen {
-    Agrees,
-    Disagrees,
-    Malformed,
+// How many vectors there are so far, and how many of them disagree.
+struct Seen {
+    vectors: u64,
+    disagree: u64,
 }
 
 // Replays each vector of the list, and says how many there are and how many disagree. They are counted from 1.
 pub(crate) fn replay(path: &[u8], list: &[u8]) {
-    let mut vectors: usize = 0;
-    let mut disagree: usize = 0;
-    let mut at: usize = 0;
-    while at < list.len() {
-        let end = text::next(list, at, b'\n');
-        let line = &list[at..end];
-        if text::is_vector(line) {
-            vectors += 1;
-            if !agrees(path, vectors, line) {
-                disagree += 1;
-            }
-        }
-        at = end + 1;
+    let mut seen = Seen {
+        vectors: 0,
+        disagree: 0,
+    };
+    let mut place = 0;
+    while place < list.len() {
+        let end = bytes::scan::find(list, place, list.len(), b'\n');
+        seen = seen.with(path, &list[place..end]);
+        place = end + 1;
     }
-    report::summary(path, vectors, disagree);
+    report::summary(path, seen.vectors, seen.disagree);
 }
 
-// Whether the vector is of the form and agrees in each way to replay it; if not, that is said. Behind the arguments stands `=`, and all behind it is
-// what is stored.
-fn agrees(path: &[u8], number: usize, line: &[u8]) -> bool {
-    let call = calls::named(text::field(line, 0));
-    let equals = calls::arguments(call) + 1;
-    if !text::same(text::field(line, equals), b"=") {
-        report::malformed(path, number);
-        return false;
-    }
-    let ways = calls::ways(call);
-    let mut right = true;
-    let mut way = 0;
-    while way < ways {
-        match one_way(path, number, call, way, line) {
-            Seen::Agrees => {}
-            Seen::Disagrees => {
-                right = false;
-            }
-            Seen::Malformed => {
-                report::malformed(path, number);
-                return false;
-            }
+impl Seen {
+    // And the line. An empty one, and one that begins with '#', is no vector.
+    fn with(self, path: &[u8], line: &[u8]) -> Seen {
+        if line.len() == 0 {
+            return self;
         }
-        way += 1;
+        if line[0] == b'#' {
+            return self;
+        }
+        let vectors = std::num::wrapping_add_u64(self.vectors, 1);
+        let disagrees = !agrees(path, vectors, line);
+        Seen {
+            vectors,
+            disagree: std::num::wrapping_add_u64(self.disagree, disagrees as u64),
+        }
+    }
+}
+
+// Whether the vector is of its call's form and agrees in each way to replay it; if not, that is said.
+fn agrees(path: &[u8], number: u64, line: &[u8]) -> bool {
+    let call = fields::row_of(fields::part(line, 0, b' '), &calls::CALLS);
+    let arguments = arguments::read(
+        line,
+        fields::part(fields::part(&calls::CALLS, call, b'|'), 1, b';'),
+    );
+    if arguments.ok {
+        return agree(path, number, line, call, arguments);
+    }
+    report::malformed(path, number);
+    false
+}
+
+// Whether all rows of the call agree.
+fn agree(path: &[u8], number: u64, line: &[u8], call: usize, arguments: Arguments) -> bool {
+    let mut right = true;
+    let mut row = call;
+    let mut left = calls::ways(call);
+    while 0 < left {
+        right = right & is_stored(path, number, line, row, calls::results(arguments, row));
+        row = std::num::wrapping_add_usize(row, 1);
+        left -= 1;
     }
     right
 }
 
-// Replays a vector in one way.
-fn one_way(path: &[u8], number: usize, call: Call, way: usize, line: &[u8]) -> Seen {
-    let mut room = [0u8; ROOM];
-    let length = calls::results(call, way, line, &mut room);
-    if length == 0 {
-        return Seen::Malformed;
+// Whether the results are what is stored behind `=`; if not, that is said. A text that fills its room may be cut, and never agrees.
+fn is_stored(path: &[u8], number: u64, line: &[u8], row: usize, results: Results) -> bool {
+    let text = results.text;
+    let given = fields::start(&text, results.end);
+    let stored = fields::rest(line, 1, b'=');
+    if check::same(given, stored) & (results.end < text.len()) {
+        return true;
     }
-    compared(path, number, call, way, line, &room, length)
-}
-
-// Compares the text at the room's start, of that length, with what is stored. A text that fills the room may be cut, and never agrees.
-fn compared(
-    path: &[u8],
-    number: usize,
-    call: Call,
-    way: usize,
-    line: &[u8],
-    room: &[u8],
-    length: usize,
-) -> Seen {
-    let name = text::field(line, 0);
-    let stored = text::rest(line, calls::arguments(call) + 2);
-    if room.len() <= length {
-        report::disagreement(path, number, name, call, way, room, stored);
-        return Seen::Disagrees;
-    }
-    let given = &room[..length];
-    if text::same(given, stored) {
-        return Seen::Agrees;
-    }
-    report::disagreement(path, number, name, call, way, given, stored);
-    Seen::Disagrees
+    report::disagreement(path, number, line, row, given, stored);
+    false
 }

@@ -1,21 +1,15 @@
 // Replays the stored lists in data/ and compares. A disagreement is printed with the vector's number and both texts, and the gate, which
 // holds what this program writes, then fails. Nothing here is part of the port: it is a test of it.
+mod arguments;
 mod calls;
-mod check_values;
-mod i2c_calls;
+mod fields;
 mod lists;
-mod packets;
-mod render;
+mod receivers;
 mod report;
-mod rooms;
-mod serial_calls;
-mod states;
-mod streams;
-mod text;
-mod usb_calls;
-mod walks;
+mod results;
+mod words;
 
-// Room for the longest list. It is a value of its own: an array that is made where it is lent is counted out by the proof, which takes a quarter of a minute.
+// Room for the longest list. The bytes are a value of their own: an array that is made where it is lent is counted out by the proof.
 const ROOM: usize = 524288;
 
 struct Room {
@@ -26,26 +20,41 @@ fn empty() -> Room {
     Room { bytes: [0; ROOM] }
 }
 
+// The lists. The last one is wrong on purpose, so that the gate sees that a disagreement is found, and how it is printed.
+const LISTS: [u8; 161] =
+    *b"check-values.txt|serial-frames.txt|serial-streams.txt|serial-steps.txt|serial-takes.txt|i2c-frames.txt|\
+    usb-transfers.txt|documents.txt|rust-answers.txt|wrong.txt";
+
 fn main() {
-    let lent = empty();
-    let mut room = lent.bytes;
-    replay(b"check-values.txt", &mut room);
-    replay(b"serial-frames.txt", &mut room);
-    replay(b"serial-streams.txt", &mut room);
-    replay(b"serial-steps.txt", &mut room);
-    replay(b"serial-takes.txt", &mut room);
-    replay(b"i2c-frames.txt", &mut room);
-    replay(b"usb-transfers.txt", &mut room);
-    replay(b"documents.txt", &mut room);
-    replay(b"rust-answers.txt", &mut room);
-    // This list is wrong on purpose, so that the gate sees that a disagreement is found, and how it is printed.
-    replay(b"wrong.txt", &mut room);
+    let mut k = 0;
+    while k < 10 {
+        replay(fields::part(&LISTS, k, b'|'));
+        k += 1;
+    }
 }
 
-// Replays the list that the path names. Of one that has nothing to replay, or is too long for the room, only standard error hears.
-fn replay(path: &[u8], room: &mut [u8]) {
-    let n = text::load(path, room);
-    if 0 < n {
-        lists::replay(path, &room[..n]);
+// Replays the list that the path names. Of one that can't be read, is empty, or leaves no room behind it, so that its end isn't seen, only standard error
+// hears.
+fn replay(path: &[u8]) {
+    let room = empty();
+    let mut bytes = room.bytes;
+    let fd = os::open_read(path);
+    if fd < 0 {
+        os::fail(path);
+        return;
     }
+    let n = io::read_full(fd, &mut bytes);
+    libc::close(fd);
+    if n == 0 {
+        report::unfit(path, b": nothing could be read of this list\n");
+        return;
+    }
+    if n == ROOM {
+        report::unfit(
+            path,
+            b": this list is too long for the room that main has\n",
+        );
+        return;
+    }
+    lists::replay(path, fields::start(&bytes, n));
 }
