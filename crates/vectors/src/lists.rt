@@ -1,10 +1,6 @@
 // A stored list, vector after vector.
-use crate::arguments;
-use crate::arguments::Arguments;
-use crate::calls;
-use crate::fields;
 use crate::report;
-use crate::results::Results;
+use replay::WAYS;
 
 // How many vectors there are so far, and how many of them disagree.
 struct Seen {
@@ -45,41 +41,22 @@ impl Seen {
     }
 }
 
-// Whether the vector is of its call's form and agrees in each way to replay it; if not, that is said.
+// Whether the vector agrees in each way to replay it; if not, that is said.
 fn agrees(path: &[u8], number: u64, line: &[u8]) -> bool {
-    let call = fields::row_of(fields::part(line, 0, b' '), &calls::CALLS);
-    let arguments = arguments::read(
-        line,
-        fields::part(fields::part(&calls::CALLS, call, b'|'), 1, b';'),
-    );
-    if arguments.ok {
-        return agree(path, number, line, call, arguments);
-    }
-    report::malformed(path, number);
-    false
-}
-
-// Whether all rows of the call agree.
-fn agree(path: &[u8], number: u64, line: &[u8], call: usize, arguments: Arguments) -> bool {
     let mut right = true;
-    let mut row = call;
-    let mut left = calls::ways(call);
-    while 0 < left {
-        right = right & is_stored(path, number, line, row, calls::results(arguments, row));
-        row = std::num::wrapping_add_usize(row, 1);
-        left -= 1;
+    let mut way = 0;
+    while way < WAYS {
+        right = right & agrees_in(way, path, number, line);
+        way += 1;
     }
     right
 }
 
-// Whether the results are what is stored behind `=`; if not, that is said. A text that fills its room may be cut, and never agrees.
-fn is_stored(path: &[u8], number: u64, line: &[u8], row: usize, results: Results) -> bool {
-    let text = results.text;
-    let given = fields::start(&text, results.end);
-    let stored = fields::rest(line, 1, b'=');
-    if check::same(given, stored) & (results.end < text.len()) {
+fn agrees_in(way: usize, path: &[u8], number: u64, line: &[u8]) -> bool {
+    let replayed = replay::replay(line, way);
+    if replayed.agrees {
         return true;
     }
-    report::disagreement(path, number, line, row, given, stored);
+    report::disagreement(path, number, replayed);
     false
 }

@@ -1,32 +1,22 @@
 // What the program writes: a line for each disagreement, and one for each list; on standard error, which list could not be replayed.
-use crate::calls;
-use crate::fields;
 use libc::STDERR_FILENO;
 use libc::STDOUT_FILENO;
+use replay::Replayed;
 
-// Says what the call gives, in the way that the row says, and what is stored.
-pub(crate) fn disagreement(
-    path: &[u8],
-    number: u64,
-    line: &[u8],
-    row: usize,
-    given: &[u8],
-    stored: &[u8],
-) {
+// Says what the replay of a vector does.
+pub(crate) fn disagreement(path: &[u8], number: u64, replayed: Replayed) {
     vector(path, number);
-    put(fields::part(line, 0, b' '));
-    put(fields::part(fields::part(&calls::CALLS, row, b'|'), 2, b';'));
-    put(b" gives");
-    put(given);
-    put(b", stored");
-    put(stored);
+    let text = replayed.text;
+    put_first(&text, replayed.end);
     put(b"\n");
 }
 
-// Says that a line is not of the form.
-pub(crate) fn malformed(path: &[u8], number: u64) {
-    vector(path, number);
-    put(b"not of this list's form\n");
+// Names a vector by its list and its number there, counted from 1.
+fn vector(path: &[u8], number: u64) {
+    put(path);
+    put(b": vector ");
+    io::print_decimal(STDOUT_FILENO, number);
+    put(b": ");
 }
 
 // Says how many vectors a list has, and how many of them disagree.
@@ -45,12 +35,12 @@ pub(crate) fn unfit(path: &[u8], why: &[u8]) {
     io::write_all(STDERR_FILENO, why);
 }
 
-// Names a vector by its list and its number there, counted from 1.
-fn vector(path: &[u8], number: u64) {
-    put(path);
-    put(b": vector ");
-    io::print_decimal(STDOUT_FILENO, number);
-    put(b": ");
+// The first n bytes, which are there.
+fn put_first(text: &[u8], n: usize) {
+    if text.len() < n {
+        return;
+    }
+    put(&text[0..n]);
 }
 
 fn put(text: &[u8]) {

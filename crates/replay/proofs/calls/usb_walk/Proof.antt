@@ -1,10 +1,10 @@
--- `vectors::calls::usb_walk` is safe and ends: the turns are counted down. Assumes nothing.
+-- `replay::calls::usb_walk` is safe and ends: the turns are counted down. Assumes nothing.
 use Prim.Native.Nat.{_≤_}
 use borrow.Author.Needs.{needs}
-use Rattle.vectors.proofs.calls.usb_walk.Statement.{statement}
-use Rattle.vectors.proofs.calls.usb_walk.Tie as tie
+use Rattle.replay.proofs.calls.usb_walk.Statement.{statement}
+use Rattle.replay.proofs.calls.usb_walk.Tie as tie
 use Rattle.transfer.proofs.walker.Walked.number.Reads as walker-Walked-number-reads
-use Rattle.vectors.proofs.results.Results.number.Reads as results-Results-number-reads
+use Rattle.replay.proofs.results.Results.number.Reads as results-Results-number-reads
 
 abbrev Inv-loop : tie.InvT-loop
 Inv-loop transfer start results₀ place₀ turns₀ results place turns = turns ≤ turns₀

@@ -14,6 +14,9 @@ pub(crate) const CALLS: [u8; 269] =
     feed;b=;, byte by byte|feed;b=;, in one call|feed;b=;, a byte a call|feed;b=;, in pieces|step;pnnsx=|take;pnnsbnr=|\
     i2c-encode;xxkbr=|i2c-decode;kb=|usb-header;nr=|usb-decode;b=|usb-append;bnr=|usb-walk;bn=";
 
+// The most ways in which a call is replayed.
+pub const WAYS: usize = 4;
+
 // How many rows the call has, from its first one on.
 pub(crate) fn ways(call: usize) -> usize {
     match call {

@@ -6,7 +6,7 @@ use crate::words;
 use serial::Receiver;
 
 // Room for the text of a vector's results, longer than any line may be.
-const ROOM: usize = 16384;
+pub const ROOM: usize = 16384;
 
 pub(crate) struct Results {
     pub text: [u8; ROOM],
@@ -22,6 +22,13 @@ pub(crate) fn none() -> Results {
 }
 
 impl Results {
+    // A text right behind the last one, with no space between them.
+    pub(crate) fn then(self, text: &[u8]) -> Results {
+        let mut room = self.text;
+        let end = text::put(text, &mut room, self.end);
+        Results { text: room, end }
+    }
+
     // A word, by its place in the table.
     pub(crate) fn word(self, k: usize) -> Results {
         let mut room = self.text;
