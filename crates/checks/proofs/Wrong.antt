@@ -1,7 +1,7 @@
 -- The published values are computed, and so is where each wrong check value or law differs: over no bytes or over one. Assumes nothing.
 use Prim.Native.Nat.{ℕ}
 use mathlib.Core.Path.{refl}
-use mathlib.Core.List.{List, [], _∷_, dropLast, zipWith}
+use mathlib.Core.List.{List, [], _∷_, zipWith}
 use native.Mathlib.Omega.{arith}
 use Rattle.checks.specs.BitOrder.{bitEnters, bitsEnter}
 use Rattle.checks.specs.Laws.{Bytes}

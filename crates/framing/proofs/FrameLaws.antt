@@ -13,7 +13,7 @@ use Rattle.checks.specs.Laws.{Bytes}
 use Rattle.checks.specs.FrameCheck.{frameCheck, frameRegister}
 use Rattle.checks.proofs.FrameCheck.{frame-below}
 use Rattle.checks.proofs.Bytes.{bytes-none, bytes-cons, bytes-append, bytes-each}
-use Rattle.framing.specs.Frame.{flag, escape, flagEscaped, escapeEscaped, revision, escaped, escapedAll, escapes, escapesOf, covered, checkBytes, behindFlag, frame, frames, packetMost, Sendable, AllSendable}
+use Rattle.framing.specs.Frame.{flag, escape, flagEscaped, escapeEscaped, revision, escaped, escapedAll, escapes, escapesOf, covered, checkBytes, behindFlag, frame, frames, packetMost, AllSendable}
 use Rattle.framing.specs.FrameLaws.{FrameLength, FrameMost, FrameBytes, SameFrame, SameBehindFlag}
 
 pub escaped-all-append : (xs ys : List ℕ) → escapedAll (xs ++ ys) ≡ escapedAll xs ++ escapedAll ys

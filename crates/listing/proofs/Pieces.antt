@@ -7,7 +7,6 @@ use mathlib.Core.List.{List, [], _∷_, _++_}
 use lib.ListN.{length, length-append}
 use Rattle.serial.specs.declared.receiver.Receiver.{Receiver}
 use Rattle.line.specs.Demand3.{flags, placed}
-use Rattle.framing.specs.Frame.{frames}
 use Rattle.serial.specs.Receiver.{consistentOf, freshOf}
 use Rattle.serial.specs.Run.{heard, outsBy, outsOf, packetsOf, runOf}
 use Rattle.line.proofs.Demand3.{demand-3-whole}

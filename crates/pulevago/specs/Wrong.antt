@@ -1,6 +1,6 @@
 -- Wrong calls. Of each, an input is named at which it does not give what the definitions that the call's contract cites give there, so the contract refuses
 -- it. The proofs: `proofs/Wrong.antt`. Assumes nothing.
-use Prim.Native.Nat.{ℕ, _+_, _/_}
+use Prim.Native.Nat.{ℕ, _+_, _-_, _/_}
 use mathlib.Core.Bool.{true, false}
 use mathlib.Core.List.{List, [], _∷_}
 use mathlib.Core.Logic.{_≢_}
@@ -12,7 +12,7 @@ use Rattle.framing.specs.Computed.{ending}
 use Rattle.framing.specs.Frame.{flag}
 use Rattle.framing.specs.Writer.{writerAnswer}
 use Rattle.i2c.specs.Decode.{decodeAnswer as decodeFrameAnswer}
-use Rattle.state.specs.State.{noPosition, sized}
+use Rattle.state.specs.State.{noPosition, sized, stateSize}
 use Rattle.transfer.specs.Builder.{usedAfter}
 use Rattle.usb.specs.Decode.{decodeAnswer, remainderPart}
 use Rattle.usb.specs.Header.{headerAnswer, headerOf, headerSize}
@@ -45,7 +45,7 @@ HalfLengthFails = (there : ℕ) → given (caseA .number) there (valueOf caseA) 
 
 -- bytes of a state's size whose first is no position's number
 abbrev noneHeld : List ℕ
-noneHeld = noPosition ∷ replicate 262 0
+noneHeld = noPosition ∷ replicate (stateSize - 1) 0
 
 -- a test that looks at the size alone: every buffer of a state's size would be said to hold one
 abbrev pub SizeAloneFails : Type 0

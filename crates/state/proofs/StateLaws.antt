@@ -2,13 +2,13 @@
 -- functions hand back. The statements: `specs/Laws.antt`. Assumes nothing.
 use Prim.Native.Nat.{ℕ, zero, suc, _+_, _*_, _/_, _%_, _≤_, _<_}
 use mathlib.Core.Path.{_≡_, _∙_, ap, refl, sym}
-use mathlib.Core.Bool.{Bool, true, false, cond, _&&_, false≢true}
+use mathlib.Core.Bool.{Bool, true, false, _&&_, false≢true}
 use mathlib.Core.List.{List, [], _∷_}
 use native.Mathlib.Omega.{arith}
 use lib.Dec.{eqb, ltb}
 use lib.ListN.{drop, getD, length, length-drop, length-replicate, length-set, set}
 use lib.Seq.{getD-set-same}
-use borrow.Author.Tests.{eq-eqb, eqb-false, eqb-true, le-ltb, lt-leb, ltb-false, ltb-true}
+use borrow.Author.Tests.{eq-eqb, eqb-false, eqb-true, le-ltb, ltb-false, ltb-true}
 use Rattle.checks.specs.Laws.{Bytes}
 use Rattle.checks.proofs.Choice.{by-cond, left as both-left}
 use Rattle.checks.proofs.Numbers.{same-number}
@@ -23,9 +23,9 @@ use Rattle.serial.specs.Taker.{takenOf}
 use Rattle.serial.proofs.Consistent.{facts}
 use Rattle.serial.proofs.HandsBack.{step-hands-back, taker-hands-back}
 use Rattle.serial.proofs.Keeps.{fresh-consistent, keeps}
-use Rattle.state.specs.InBuffer.{holdsState, stepAnswerIn, stepLeaves, stepsLeave, takeAnswerIn, takeLeaves, takenIn}
+use Rattle.state.specs.InBuffer.{holdsState, stepAnswerIn, stepLeaves, stepsLeave, takeAnswerIn, takeLeaves}
 use Rattle.state.specs.Laws.{FreshZeros, GoesOn, HandedThere, LeavesState, LoadedStored, NoState, ShortKept, StepsRun, StoredLoaded, StoredTells, WrongSize}
-use Rattle.state.specs.State.{left, loaded, noPosition, noState, sized, stateBytes, stateOf, stateSize, storedAt, tooLarge}
+use Rattle.state.specs.State.{left, loaded, noPosition, noState, sized, stateBytes, stateSize, storedAt, tooLarge}
 use Rattle.state.proofs.InBuffer.{handed-in}
 use Rattle.state.proofs.State.{left-large, left-other, left-stored, loaded-known, loaded-other, loaded-unknown}
 

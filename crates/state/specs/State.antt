@@ -2,13 +2,13 @@
 -- Assumes nothing.
 use Prim.Native.Nat.{ℕ, _+_, _*_, _/_, _%_}
 use mathlib.Core.Bool.{Bool, cond, _&&_, _||_}
-use mathlib.Core.List.{List, [], _∷_}
+use mathlib.Core.List.{List, _∷_}
 use lib.Dec.{eqb, ltb}
-use lib.ListN.{length, drop, getD, replicate, set}
+use lib.ListN.{length, drop, getD, set}
 use Rattle.framing.specs.Frame.{packetMost}
 use Rattle.serial.specs.declared.receiver.Position.the-variants.{FrameEnd}
 use Rattle.serial.specs.declared.receiver.Receiver.{Receiver}
-use Rattle.serial.specs.Receiver.{positionNumber, positions, storedSize}
+use Rattle.serial.specs.Receiver.{changed, freshOf, moveTo, positionNumber, positions, storedSize}
 
 -- ---- sizes and places
 
@@ -49,17 +49,12 @@ left bytes s = cond (sized bytes) (cond (tooLarge s) (set bytes 0 noPosition) (s
 
 -- what is loaded where no state is held: it is not consistent, in FrameEnd without a count
 abbrev pub noState : Receiver
-noState = record { position = FrameEnd; count = 0; len = 0; stored = replicate storedSize 0 }
+noState = moveTo FrameEnd freshOf
 
 -- the state whose bytes these are
 abbrev pub stateOf : List ℕ → Receiver
 stateOf bytes =
-    record {
-      position = getD positions (getD bytes 0 0) FrameEnd;
-      count = getD bytes 1 0;
-      len = getD bytes 2 0 * 256 + getD bytes 3 0;
-      stored = drop storedAt bytes;
-    }
+    changed (getD positions (getD bytes 0 0) FrameEnd) (getD bytes 1 0) (getD bytes 2 0 * 256 + getD bytes 3 0) (drop storedAt bytes) freshOf
 
 -- the state that a buffer holds: one of a state's size, whose first byte is a position's number, holds one
 unfoldable pub loaded : List ℕ → Receiver

@@ -1,6 +1,6 @@
 -- Wrong ways to keep a state as bytes. Of each, a buffer is named at which it does not give what the definitions that the contract or the law cites give
 -- there, so they refuse it. The proofs: `proofs/Wrong.antt`. Assumes nothing.
-use Prim.Native.Nat.{ℕ}
+use Prim.Native.Nat.{ℕ, _+_, _-_}
 use mathlib.Core.Path.{_≡_}
 use mathlib.Core.List.{List, [], _∷_}
 use mathlib.Core.Logic.{_≢_}
@@ -11,14 +11,14 @@ use Rattle.framing.specs.Frame.{flag}
 use Rattle.serial.specs.Receiver.{freshOf, stepOf}
 use Rattle.serial.specs.Run.{packetIn}
 use Rattle.state.specs.InBuffer.{stepAnswerIn, stepLeaves}
-use Rattle.state.specs.State.{left, loaded, noPosition, stateBytes, stateOf, storedAt}
+use Rattle.state.specs.State.{left, loaded, noPosition, stateBytes, stateOf, stateSize, storedAt}
 
 -- zeros, one byte less than a state has, and one more
 abbrev short : List ℕ
-short = replicate 262 0
+short = replicate (stateSize - 1) 0
 
 abbrev long : List ℕ
-long = replicate 264 0
+long = replicate (stateSize + 1) 0
 
 -- what stands behind the first byte before the flag that ends case A's frame: the count, the stored length, and the stored bytes
 abbrev caseA : List ℕ

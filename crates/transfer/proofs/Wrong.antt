@@ -1,6 +1,6 @@
 -- Errors that walker and builder do not make: each would say something else of one transfer or of one packet, which is computed. Assumes nothing.
 use Prim.Native.Nat.{ℕ}
-use mathlib.Core.Path.{_≡_, _∙_, ap, sym}
+use mathlib.Core.Path.{_∙_, ap, sym}
 use mathlib.Core.List.{List}
 use native.Mathlib.Omega.{arith}
 use lib.ListN.{length}
@@ -10,7 +10,6 @@ use Rattle.checks.proofs.Numbers.{same-number, same-value}
 use Rattle.usb.specs.Decode.{decodeAnswer}
 use Rattle.transfer.specs.declared.walker.Walker.{Walker}
 use Rattle.transfer.specs.Builder.{appendAnswer, usedAfter}
-use Rattle.transfer.specs.Computed.{two}
 use Rattle.transfer.specs.Walk.{placeAfter, walkAnswer}
 use Rattle.transfer.specs.Wrong.{NotCountedAnyway, NotEmptied, NotEndAfterFirst, NotFromStart, NotRoomFirst, NotStanding, NotUnmoved}
 

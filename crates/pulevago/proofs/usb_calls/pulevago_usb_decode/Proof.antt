@@ -7,8 +7,7 @@ use native.Mathlib.Omega.{arith}
 use lib.ListN.{length}
 use borrow.Author.Needs.{needs}
 use denote.Ref.{now}
-use Rattle.checks.specs.Numbers.{Answer, answer, done, valueOf}
-use Rattle.usb.specs.declared.decoder.Decoded.{Decoded}
+use Rattle.checks.specs.Numbers.{Answer, answer, done}
 use Rattle.usb.specs.Decode.{decodeAnswer, decodedAnswer, packetAt, restAt}
 use Rattle.usb.proofs.DecodeLaws.{accepted}
 use Rattle.pulevago.proofs.Answers.{packet-had}

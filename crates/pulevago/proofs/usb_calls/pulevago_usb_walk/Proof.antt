@@ -12,7 +12,7 @@ use Rattle.transfer.specs.declared.walker.Walked.{Walked}
 use Rattle.usb.specs.Decode.{packetAt}
 use Rattle.transfer.specs.Walk.{placeBehind, walkAnswer, walkedAnswer}
 use Rattle.transfer.proofs.WalkLaws.{found}
-use Rattle.pulevago.proofs.Answers.{most-found, none-found, one-found, refused-none}
+use Rattle.pulevago.proofs.Answers.{none-found, one-found, refused-none}
 use Rattle.pulevago.proofs.Lent.{given-done, given-refused, number-given}
 use Rattle.pulevago.proofs.usb_calls.pulevago_usb_walk.Statement.{statement}
 use Rattle.pulevago.proofs.usb_calls.pulevago_usb_walk.Tie as tie

@@ -3,8 +3,6 @@ use Prim.Native.Nat.{_≤_}
 use borrow.Author.Needs.{needs}
 use Rattle.replay.proofs.calls.usb_walk.Statement.{statement}
 use Rattle.replay.proofs.calls.usb_walk.Tie as tie
-use Rattle.transfer.proofs.walker.Walked.number.Reads as walker-Walked-number-reads
-use Rattle.replay.proofs.results.Results.number.Reads as results-Results-number-reads
 
 abbrev Inv-loop : tie.InvT-loop
 Inv-loop transfer start results₀ place₀ turns₀ results place turns = turns ≤ turns₀
