@@ -37,12 +37,16 @@ pub(crate) fn part(text: &[u8], k: usize, between: u8) -> &[u8] {
     start(from, bytes::scan::find(from, 0, from.len(), between))
 }
 
-// The row of the table that begins with the name, counted from 0; where none does, their number or more. Rows are parted by '|', and what a row begins
-// with ends at ';'.
+// The k-th cell of a row of the table: rows are parted by '|', and their cells by ';'.
+pub(crate) fn cell(table: &[u8], row: usize, k: usize) -> &[u8] {
+    part(part(table, row, b'|'), k, b';')
+}
+
+// The row of the table whose first cell is the name, counted from 0; where none is, their number or more.
 pub(crate) fn row_of(name: &[u8], table: &[u8]) -> usize {
     let mut k = 0;
     while k < table.len() {
-        if check::same(part(part(table, k, b'|'), 0, b';'), name) {
+        if check::same(cell(table, k, 0), name) {
             return k;
         }
         k += 1;
