@@ -9,11 +9,12 @@ use libc::STDIN_FILENO;
 use libc::STDOUT_FILENO;
 use listing::Lines;
 use serial::Receiver;
+use serial::STORED_SIZE;
 
-// The bytes of one read, and the room that `list` asks for them: twice as many and 518 more.
+// The bytes of one read, and the room that `list` asks for them: two of text for each, and for each that a receiver may have stored before.
 const READ: usize = 32768;
 
-const TEXT: usize = 66054;
+const TEXT: usize = 2 * READ + 2 * STORED_SIZE;
 
 // What a read came to: bytes that were listed, the input's end, or a failure, which standard error has heard of.
 enum Came {
