@@ -6,13 +6,14 @@ use crate::fields;
 use crate::results::Results;
 use crate::words;
 use serial::Outcome;
+use serial::Position;
 use serial::Reason;
 use serial::Receiver;
 use serial::STORED_SIZE;
 
 // The state of the first three numbers and the stored bytes.
 pub(crate) fn state_of(numbers: Numbers, stored: [u8; STORED_SIZE]) -> Receiver {
-    let position = words::position_at(numbers.first);
+    let position = Position::of((numbers.first % 256) as u8);
     Receiver {
         position,
         count: numbers.second,

@@ -85,7 +85,7 @@ impl Results {
     pub(crate) fn state(self, state: Receiver) -> Results {
         let position = state.position;
         let stored = state.stored;
-        self.word(words::of_position(position))
+        self.word(words::POSITION + position.number() as usize)
             .number(state.count)
             .number(state.len)
             .bytes(arguments::trimmed(&stored))

@@ -6,9 +6,12 @@ use lib.ListN.{getD}
 use Rattle.checks.specs.Register.{bitStep, bitSteps, byteStep, checkFrom}
 use Rattle.framing.specs.Frame.{escaped, escapedAll, frame}
 use Rattle.serial.specs.declared.receiver.Receiver.{Receiver}
-use Rattle.serial.specs.Computed.{Fitting, NotFitting, NotFresh, OutcomeTold, PacketHandedOut, ReasonTold, StepRefuses, TakerAtLimits}
+use Rattle.serial.specs.Computed.{Fitting, NotFitting, NotFresh, OutcomeTold, PacketHandedOut, PositionsTold, ReasonTold, StepRefuses, TakerAtLimits}
 use Rattle.serial.specs.Receiver.{agreesOf, consistentOf, fitsAt, positionNumber, rowOf, stepOf}
 use Rattle.serial.specs.Taker.{copiedOf, takeFrom, takenOf}
+
+pub positions-told : PositionsTold
+positions-told = (refl, refl, refl, refl, refl, refl, refl, refl, refl, refl, refl, refl, refl, refl, refl)
 
 pub not-fresh : NotFresh
 not-fresh = (

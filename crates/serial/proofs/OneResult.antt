@@ -13,6 +13,10 @@ use Rattle.serial.proofs.receiver.Receiver.step.Kinds as step
 use Rattle.serial.proofs.receiver.Receiver.step.Reads as step-reads
 use Rattle.serial.proofs.receiver.Receiver.take.Kinds as take
 use Rattle.serial.proofs.receiver.Receiver.take.Reads as take-reads
+use Rattle.serial.proofs.receiver.Position.number.Kinds as position-number
+use Rattle.serial.proofs.receiver.Position.number.Reads as position-number-reads
+use Rattle.serial.proofs.receiver.Position.of.Kinds as position-of
+use Rattle.serial.proofs.receiver.Position.of.Reads as position-of-reads
 use Rattle.serial.proofs.receiver.Outcome.number.Kinds as outcome-number
 use Rattle.serial.proofs.receiver.Outcome.number.Reads as outcome-number-reads
 use Rattle.serial.proofs.receiver.Outcome.value.Kinds as outcome-value
@@ -36,6 +40,14 @@ pub take-one : OneOutcome 2 take.ps take.r (λ κs e. now (e .1 .1 .1 .0)) take-
 take-one κs a x y e f p q =
     let same = p .0 ∙ sym (q .0) in
     (same, p .1 .0 ∙ ap (λ (t : Taken). copiedOf (t .reason) (t .state) (now (a .1 .1 .1 .0))) same ∙ sym (q .1 .0))
+
+-- ---- a position's number, and the position of a number
+
+pub position-number-one : OneResult 0 position-number.ps position-number.r position-number-reads.Post
+position-number-one κs a x y e f p q = p ∙ sym q
+
+pub position-of-one : OneResult 0 position-of.ps position-of.r position-of-reads.Post
+position-of-one κs a x y e f p q = p ∙ sym q
 
 -- ---- the answers' numbers and values
 

@@ -4,7 +4,7 @@ use Prim.Native.Nat.{ℕ}
 use mathlib.Core.Path.{_≡_}
 use mathlib.Core.Bool.{true, false}
 use mathlib.Core.List.{[], _∷_, _++_}
-use lib.ListN.{replicate}
+use lib.ListN.{getD, replicate}
 use Rattle.checks.specs.Numbers.{answer, inconsistent, shortOutput, valueOf}
 use Rattle.framing.specs.Computed.{ending}
 use Rattle.framing.specs.Frame.{flag, frame, revision}
@@ -15,12 +15,22 @@ use Rattle.serial.specs.declared.receiver.Receiver.{Receiver}
 use Rattle.serial.specs.declared.taker.Reason.the-variants.{Packet as PacketTaken, InputEnded, AllowanceSpent, ShortOutput as ShortTaken, Inconsistent as InconsistentTaken}
 use Rattle.serial.specs.declared.taker.Taken.{Taken}
 use Rattle.serial.specs.Answers.{outcomeAnswer, reasonAnswer, stepAnswer, takerAnswer}
-use Rattle.serial.specs.Receiver.{begun, changed, consistentOf, freshOf, moveTo, stepOf}
+use Rattle.serial.specs.Receiver.{begun, changed, consistentOf, freshOf, moveTo, positionNumber, positions, stepOf}
 use Rattle.serial.specs.Taker.{copiedOf, stop, takenOf}
 
 -- a state with a count and a stored length, behind the revision and that count
 abbrev pub behind : Position → ℕ → ℕ → Receiver
 behind p n l = changed p n l (revision ∷ n ∷ replicate 257 0) freshOf
+
+-- ---- positions: the number of each, in the order of document 01's table, and back; a number that none has is FrameEnd's, so that no two are exchanged, and 7 is not
+-- the first again
+
+abbrev pub PositionsTold : Type 0
+PositionsTold = (positionNumber FrameSearch ≡ 0) × (positionNumber SerialRevision ≡ 1) × (positionNumber ByteCount ≡ 2) × (positionNumber Data ≡ 3)
+    × (positionNumber DataEscaped ≡ 4) × (positionNumber Check ≡ 5) × (positionNumber FrameEnd ≡ 6)
+    × (getD positions 0 FrameEnd ≡ FrameSearch) × (getD positions 1 FrameEnd ≡ SerialRevision) × (getD positions 2 FrameEnd ≡ ByteCount)
+    × (getD positions 3 FrameEnd ≡ Data) × (getD positions 4 FrameEnd ≡ DataEscaped) × (getD positions 5 FrameEnd ≡ Check)
+    × (getD positions 6 FrameEnd ≡ FrameEnd) × (getD positions 7 FrameEnd ≡ FrameEnd)
 
 -- ---- fresh: no other position, and no stored byte but 0
 

@@ -2,13 +2,13 @@
 ghost use Prim.Native.Nat.{_+_, _*_};
 ghost use mathlib.Core.Path.{_≡_};
 ghost use Rattle.state.specs.State.{loaded, noState, left};
-use crate::position::NO_POSITION;
-use crate::position::number_of;
-use crate::position::position_of;
 use framing::PACKET_MOST;
 use serial::Position;
 use serial::Receiver;
 use serial::STORED_SIZE;
+
+// the first number that is no position's
+const NO_POSITION: u8 = 7;
 
 // where the stored bytes begin
 const STORED_AT: usize = 4;
@@ -51,7 +51,7 @@ pub fn load(bytes: &[u8]) -> Receiver
     }
     let mut stored = [0; STORED_SIZE];
     bytes::copy(&bytes[STORED_AT..], &mut stored);
-    let position = position_of(first);
+    let position = Position::of(first);
     let count = bytes[1] as usize;
     let len = word(bytes[2], bytes[3]);
     Receiver {
@@ -78,7 +78,7 @@ pub fn store(receiver: Receiver, bytes: &mut [u8])
     }
     let position = receiver.position;
     let stored = receiver.stored;
-    bytes[0] = number_of(position);
+    bytes[0] = position.number();
     bytes[1] = count as u8;
     bytes[2] = (len / 256) as u8;
     bytes[3] = (len % 256) as u8;

@@ -2,7 +2,6 @@
 // layout. A fresh state is zeros.
 mod buffer;
 mod kept;
-mod position;
 
 pub use buffer::PACKET_AT;
 pub use buffer::STATE_SIZE;

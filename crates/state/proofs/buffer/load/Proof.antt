@@ -65,8 +65,8 @@ slice-aggregate-copy c = search needs
 copy-requires : tie.Need-copy-requires
 copy-requires c κs = search needs
 
-position-of-requires : tie.Need-position-of-requires
-position-of-requires c κs = search needs
+of-requires : tie.Need-of-requires
+of-requires c κs = search needs
 
 shared-slice-read-count : tie.Need-shared-slice-read-count
 shared-slice-read-count c = search needs
@@ -93,7 +93,7 @@ returns-3 c =
     let fields : _ ≡ stateOf bytes =
     λ i.
     record {
-      position = p .position-of .ensures i;
+      position = p .of .ensures i;
       count = getD bytes 1 0;
       len = c .word .ensures i;
       stored = behind bytes _ (size .if1 .left) (k .copy .ensures .1) i;
@@ -114,7 +114,7 @@ load-spec =
     part-copy-end
     slice-aggregate-copy
     copy-requires
-    position-of-requires
+    of-requires
     shared-slice-read-count
     cast-count
     shared-slice-read-word

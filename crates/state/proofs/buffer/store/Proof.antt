@@ -45,8 +45,8 @@ returns-2 c =
     let a = c .before .before .before .args in
     sym (left-large (now (a .bytes)) (a .receiver) (c .before .if1 .left) (c .if2 .taken))
 
-number-of-requires : tie.Need-number-of-requires
-number-of-requires c κs = search needs
+number-requires : tie.Need-number-requires
+number-requires c κs = search needs
 
 slice-write-bytes-2 : tie.Need-slice-write-bytes-2
 slice-write-bytes-2 c = search needs
@@ -97,8 +97,8 @@ returns-3 c =
     let r = s .args .receiver in
     let bytes = s .args .bytes .now in
     four-copied _ _ _ _ (r .stored) bytes _ (omega (arith, size s, room)) (k .copy .ensures .1)
-    ∙ filled (n .number-of .result) (r .count) (r .len) (r .stored) bytes (size s) room
-    ∙ ap (λ (number : ℕ). number ∷ r .count ∷ (r .len / 256) ∷ (r .len % 256) ∷ r .stored) (n .number-of .ensures)
+    ∙ filled (n .number .result) (r .count) (r .len) (r .stored) bytes (size s) room
+    ∙ ap (λ (number : ℕ). number ∷ r .count ∷ (r .len / 256) ∷ (r .len % 256) ∷ r .stored) (n .number .ensures)
     ∙ sym (left-stored bytes r room (t .if2 .left))
 
 same-length-2 : tie.Need-same-length-2
@@ -114,7 +114,7 @@ store-spec =
     slice-write-bytes
     same-length
     returns-2
-    number-of-requires
+    number-requires
     slice-write-bytes-2
     cast-bytes
     slice-write-bytes-3

@@ -1,13 +1,13 @@
--- `position_of` meets its contract: a number up to 5 is the place of its position in the list, and behind the list and at its last place FrameEnd stands.
+-- `Position::of` meets its contract: a number up to 5 is the place of its position in the list, and behind the list and at its last place FrameEnd stands.
 -- Assumes nothing.
 use Prim.Native.Nat.{ℕ, zero, suc}
 use mathlib.Core.Path.{_≡_, refl}
 use lib.ListN.{getD}
 use Rattle.serial.specs.declared.receiver.Position.the-variants.{FrameEnd}
 use Rattle.serial.specs.Receiver.{positions}
 use borrow.Author.Needs.{needs}
-use Rattle.state.proofs.position.position_of.Statement.{statement}
-use Rattle.state.proofs.position.position_of.Tie as tie
+use Rattle.serial.proofs.receiver.Position.of.Statement.{statement}
+use Rattle.serial.proofs.receiver.Position.of.Tie as tie
 
 -- a number that is none of those before: place 6, and behind the list
 last : (n : ℕ) → (n ≡ 0 → ⊥) → (n ≡ 1 → ⊥) → (n ≡ 2 → ⊥) → (n ≡ 3 → ⊥) → (n ≡ 4 → ⊥) → (n ≡ 5 → ⊥) → FrameEnd ≡ getD positions n FrameEnd
@@ -43,6 +43,6 @@ returns-7 c =
     let r = c .match .rest in
     last _ (r .0 .0 .0 .0 .0 .1) (r .0 .0 .0 .0 .1) (r .0 .0 .0 .1) (r .0 .0 .1) (r .0 .1) (r .1)
 
-pub position-of-spec : {M : Type 1} → statement M
-position-of-spec =
+pub of-spec : {M : Type 1} → statement M
+of-spec =
     tie.close (tie.spec returns returns-2 returns-3 returns-4 returns-5 returns-6 returns-7)
