@@ -88,7 +88,7 @@ Holds (pecOver bytes) c = value (pecOf bytes) ≡ c
 -- ---- all of them
 
 -- every row of a list holds
-abbrev pub EveryRow : List Row → Type 0
+abbrev EveryRow : List Row → Type 0
 EveryRow [] = Unit {0}
 EveryRow (r ∷ rs) = Holds (r .does) (r .comes) × EveryRow rs
 

@@ -14,7 +14,7 @@ use Rattle.serial.specs.Run.{outsOf, runOf}
 -- ---- frames that are heard
 
 -- demand 3 at these packets and no history
-abbrev pub Heard : List (List ℕ) → Type 0
+abbrev Heard : List (List ℕ) → Type 0
 Heard ps = outsOf 0 (runOf freshOf (flags 3)) (frames ps) ≡ placed 0 ps
 
 -- case A's packet, with a flag to escape, and one whose check is cd7e, so that a check byte is a flag; then one of 126 bytes, so that the count is

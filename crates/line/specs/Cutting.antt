@@ -59,7 +59,7 @@ WholeCutting = (calls : List Call) (i : ℕ) (s : Receiver) (stream : List ℕ) 
 abbrev pub Willing : Call → Type 0
 Willing c = (1 ≤ c .offered) × (1 ≤ c .allowance) × (packetMost ≤ c .room)
 
-abbrev pub AllWilling : List Call → Type 0
+abbrev AllWilling : List Call → Type 0
 AllWilling [] = Unit {0}
 AllWilling (c ∷ cs) = Willing c × AllWilling cs
 

@@ -26,7 +26,7 @@ abbrev pub flags : ℕ → List ℕ
 flags n = replicate n flag
 
 -- by a step, from a state on, frames hand out their packets at these places and nothing else; their first byte has place i
-abbrev pub HearsBy : Step → Places → Receiver → Type 0
+abbrev HearsBy : Step → Places → Receiver → Type 0
 HearsBy step places s = (i : ℕ) (ps : List (List ℕ)) → AllSendable ps → outsBy step i s (frames ps) ≡ places i ps
 
 -- after any history and n flags
@@ -37,7 +37,7 @@ HearsAfterBy step places n = (h : List ℕ) → Bytes h → HearsBy step places 
 abbrev pub Hears : Receiver → Type 0
 Hears s = HearsBy stepOf placed s
 
-abbrev pub HearsAfter : ℕ → Type 0
+abbrev HearsAfter : ℕ → Type 0
 HearsAfter n = HearsAfterBy stepOf placed n
 
 abbrev pub Demand3 : Type 0

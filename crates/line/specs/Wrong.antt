@@ -22,13 +22,13 @@ use Rattle.line.specs.Cutting.{AnyCuttingBy, Calling}
 use Rattle.line.specs.Demand3.{HearsAfterBy, Places, placed}
 
 -- as ours, but at position p, where it does what `other` says
-abbrev pub differsAt : Position → Step → Step
+abbrev differsAt : Position → Step → Step
 differsAt p other b s = cond (eqb (positionNumber p) (positionNumber (s .position))) (other b s) (stepOf b s)
 
 -- ---- any receiver of a kind
 
 -- it hands out nothing, ever
-abbrev pub HandsOutNothing : Step → Type 0
+abbrev HandsOutNothing : Step → Type 0
 HandsOutNothing step = (b n : ℕ) (s : Receiver) → step b s .outcome ≡ Packet n → ⊥
 
 -- it is stuck in its first state
@@ -52,7 +52,7 @@ SamePacketFails = (packet : List ℕ) (step : Step) → HandsOutOnly packet step
 -- ---- a byte read as in another position
 
 -- byte c in p is misread: it leads to q and is not stored
-abbrev pub misread : ℕ → Position → Position → Step
+abbrev misread : ℕ → Position → Position → Step
 misread c p q = differsAt p (λ b s. cond (eqb b c) (quiet (moveTo q s)) (stepOf b s))
 
 -- a flag is looked for in ByteCount: a packet of 126 bytes is not heard
@@ -93,7 +93,7 @@ FlagsPairedFails = HearsAfterBy flagsPaired placed 3 → ⊥
 -- ---- a bad escape pair
 
 -- it is read as what `byte` makes of its second byte
-abbrev pub readsPair : (ℕ → ℕ) → Step
+abbrev readsPair : (ℕ → ℕ) → Step
 readsPair byte =
     differsAt DataEscaped (λ b s. cond (eqb b flagEscaped || eqb b escapeEscaped) (stepOf b s) (quiet (storeData (byte b) s)))
 
@@ -114,18 +114,18 @@ FlippedFails = OnlyAsSentBy flipped → ⊥
 -- ---- another check
 
 -- a flag in FrameEnd hands out the packet where another test passes
-abbrev pub handsOutBy : (Receiver → Bool) → Step
+abbrev handsOutBy : (Receiver → Bool) → Step
 handsOutBy passes =
     differsAt FrameEnd (λ b s. cond (eqb b flag && passes s) (record { outcome = Packet (s .count); state = frameEndRow b s }) (quiet (frameEndRow b s)))
 
 -- the check of what is stored, and the two check bytes that are stored, in their order
-abbrev pub checkOfStored : Receiver → ℕ
+abbrev checkOfStored : Receiver → ℕ
 checkOfStored s = frameCheck (take (s .count + 2) (s .stored))
 
-abbrev pub firstCheck : Receiver → ℕ
+abbrev firstCheck : Receiver → ℕ
 firstCheck s = getD (s .stored) (s .count + 2) 0
 
-abbrev pub secondCheck : Receiver → ℕ
+abbrev secondCheck : Receiver → ℕ
 secondCheck s = getD (s .stored) (s .count + 3) 0
 
 -- the check is not looked at
@@ -162,14 +162,14 @@ PlacedEarlyFails = HearsAfterBy stepOf early 3 → ⊥
 -- ---- takers
 
 -- each call begins with a fresh receiver: a frame cut in two is lost
-abbrev pub freshEach : Calling
+abbrev freshEach : Calling
 freshEach c s stream = called c freshOf stream
 
 abbrev pub FreshEachCallFails : Type 0
 FreshEachCallFails = AnyCuttingBy freshEach → ⊥
 
 -- a call counts one step too many
-abbrev pub oneTooMany : Calling
+abbrev oneTooMany : Calling
 oneTooMany c s stream = stop (called c s stream .reason) (called c s stream .taken + 1) (called c s stream .state)
 
 abbrev pub OneTooManyFails : Type 0

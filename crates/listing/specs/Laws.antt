@@ -16,7 +16,7 @@ use Rattle.serial.specs.Run.{heard}
 use Rattle.listing.specs.Text.{linesOf}
 
 -- each of some lists is bytes
-abbrev pub AllBytes : List (List ℕ) → Type 0
+abbrev AllBytes : List (List ℕ) → Type 0
 AllBytes [] = Unit {0}
 AllBytes (p ∷ ps) = Bytes p × AllBytes ps
 
@@ -45,7 +45,7 @@ countedBy room s [] = 0
 countedBy room s (p ∷ ps) = length (listed p room s) + countedBy room (stateAfter p room s) ps
 
 -- each piece has the room that it asks
-abbrev pub AllRoomy : ℕ → List (List ℕ) → Type 0
+abbrev AllRoomy : ℕ → List (List ℕ) → Type 0
 AllRoomy room [] = Unit {0}
 AllRoomy room (p ∷ ps) = (roomy (length p) room ≡ true) × AllRoomy room ps
 

@@ -1,6 +1,6 @@
 -- What the number of an answer tells, of each answer enum below: what a writer left in its output, and that done comes with a value. By the cases of the
 -- enum. Assumes nothing.
-use Prim.Native.Nat.{ℕ, _-_, _≤_, _<_}
+use Prim.Native.Nat.{ℕ, _-_, _<_}
 use mathlib.Core.Path.{_≡_, refl}
 use mathlib.Core.Bool.{Bool, true, false}
 use mathlib.Core.List.{List, [], _∷_}
@@ -81,11 +81,6 @@ pub refused-none : (r : Walked) → (walkedAnswer r .number ≡ done → ⊥) �
 refused-none (PacketFound n) h = absurd (h refl)
 refused-none End h = refl
 refused-none WalkFailure h = refl
-
-pub most-found : (r : Walked) → length (walkedAnswer r .values) ≤ 1
-most-found (PacketFound n) = omega arith
-most-found End = omega arith
-most-found WalkFailure = omega arith
 
 -- a source address is half of a byte
 pub source-small : (pec : Bool) (input : List ℕ) (source : ℕ) → Bytes input → decodeAnswer pec input ≡ answer done (source ∷ []) → source < 256

@@ -13,7 +13,7 @@ use Rattle.serial.proofs.Consistent.{row-of}
 use Rattle.serial.proofs.Keeps.{keeps}
 
 -- what a state's row leaves
-abbrev pub tableStep : ℕ → Receiver → Stepped
+abbrev tableStep : ℕ → Receiver → Stepped
 tableStep b s = rowOf (s .position) b s
 
 unfoldable pub tableRun : Receiver → List ℕ → Receiver

@@ -105,7 +105,7 @@ low-back high low h = omega arith
 -- ---- store and load
 
 -- whatever is loaded has a state's stored bytes
-pub loaded-size : (bytes : List ℕ) → length (loaded bytes .stored) ≡ storedSize
+loaded-size : (bytes : List ℕ) → length (loaded bytes .stored) ≡ storedSize
 unfolding loaded
 loaded-size bytes =
     by-cond (λ (s : Receiver). length (s .stored) ≡ storedSize) (sized bytes && ltb (getD bytes 0 0) noPosition) _ _

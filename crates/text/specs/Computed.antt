@@ -15,14 +15,14 @@ use Rattle.text.specs.Read.{decimalRead, hexOutput, hexRead}
 -- ---- written
 
 -- bytes with each kind of digit, and their hex: `09afff`
-abbrev pub someBytes : List ℕ
+abbrev someBytes : List ℕ
 someBytes = 0x09 ∷ 0xaf ∷ 0xff ∷ []
 
-abbrev pub someHex : List ℕ
+abbrev someHex : List ℕ
 someHex = 0x30 ∷ 0x39 ∷ 0x61 ∷ 0x66 ∷ 0x66 ∷ 0x66 ∷ []
 
 -- the largest number of 64 bits: `18446744073709551615`, without its last digit
-abbrev pub largestFront : List ℕ
+abbrev largestFront : List ℕ
 largestFront =
     0x31 ∷ 0x38 ∷ 0x34 ∷ 0x34 ∷ 0x36 ∷ 0x37 ∷ 0x34 ∷ 0x34 ∷ 0x30 ∷ 0x37 ∷ 0x33 ∷ 0x37 ∷ 0x30 ∷ 0x39 ∷ 0x35 ∷ 0x35 ∷ 0x31 ∷ 0x36 ∷ 0x31 ∷ []
 
@@ -49,10 +49,10 @@ HexPut = (putText 0 (hexAll (0xaf ∷ [])) (1 ∷ 2 ∷ []) ≡ 0x61 ∷ 0x66 �
 
 -- ---- read
 
-abbrev pub bytesRead : ℕ → HexRead
+abbrev bytesRead : ℕ → HexRead
 bytesRead n = record { ok = true; count = n }
 
-abbrev pub noBytes : HexRead
+abbrev noBytes : HexRead
 noBytes = record { ok = false; count = 0 }
 
 -- a text with its room, which leaves the bytes beyond it: the first digit of a pair is the high one; and no digit at all
@@ -66,10 +66,10 @@ HexRefused = (hexRead someHex 2 ≡ noBytes) × (hexOutput someHex (1 ∷ 2 ∷ 
     × (hexRead (0x30 ∷ 0x2f ∷ []) 3 ≡ noBytes) × (hexRead (0x30 ∷ 0x3a ∷ []) 3 ≡ noBytes) × (hexRead (0x60 ∷ 0x30 ∷ []) 3 ≡ noBytes)
     × (hexRead (0x67 ∷ 0x30 ∷ []) 3 ≡ noBytes)
 
-abbrev pub numberRead : ℕ → DecimalRead
+abbrev numberRead : ℕ → DecimalRead
 numberRead n = record { ok = true; value = n }
 
-abbrev pub noNumber : DecimalRead
+abbrev noNumber : DecimalRead
 noNumber = record { ok = false; value = 0 }
 
 -- `0`, `100` and the largest number
