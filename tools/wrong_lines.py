@@ -93,6 +93,10 @@ def wrong_forms():
     yield "a byte of three digits", step.replace(" 7e = ", " 07e = ")
     yield "a state without its stored length", step.replace(" 0 0 - 7e", " 0 - 7e")
     yield "260 stored bytes", step.replace(" 0 0 - 7e", " 0 0 " + "01" * 260 + " 7e")
+    yield "a zero at the end of the stored bytes", step.replace(" 0 0 - 7e", " 0 0 0100 7e")
+    yield "2049 bytes", vector("pec", bytes(1)).replace(" 00 ", " " + "00" * 2049 + " ")
+    yield "a room of 2049 bytes", good.replace(" 15 ", " 2049 ")
+    yield "a size over 99999", vector("usb-header", 251, 4).replace(" 251 ", " 100000 ")
     yield "a kind that isn't one", vector("i2c-decode", "plain", b"\x3a\x0f\x01\x41").replace("plain", "none")
     yield "an address of one digit", vector("i2c-encode", b"\x20", b"\x1d", "pec", b"", 5).replace(" 20 ", " 2 ")
 
