@@ -1,6 +1,6 @@
 -- What is computed, step by step, from the definitions: a frame with and without PEC, what encode answers and leaves in the output, inputs that
--- are nearly frames, and every answer's number and value. An error in a definition breaks these first. The PEC's value is that of another implementation, CRC-8/SMBUS of
--- python3-crccheck. The proofs: `proofs/Computed.antt`. Assumes nothing.
+-- are nearly frames, and every answer's number and value. An error in a definition breaks these first. The PEC's value is that of another
+-- implementation, CRC-8/SMBUS of python3-crccheck. The proofs: `proofs/Computed.antt`. Assumes nothing.
 use Prim.Native.Nat.{ℕ}
 use mathlib.Core.Path.{_≡_}
 use mathlib.Core.Bool.{true, false}

@@ -22,8 +22,7 @@ use Rattle.serial.specs.Taker.{copiedOf, stop, takenOf}
 abbrev pub behind : Position → ℕ → ℕ → Receiver
 behind p n l = changed p n l (revision ∷ n ∷ replicate 257 0) freshOf
 
--- ---- positions: the number of each, in the order of document 01's table, and back; a number that none has is FrameEnd's, so that no two are exchanged, and 7 is not
--- the first again
+-- ---- positions: the number of each, in the order of document 01's table, and back; of a number that none has, FrameEnd
 
 abbrev pub PositionsTold : Type 0
 PositionsTold = (positionNumber FrameSearch ≡ 0) × (positionNumber SerialRevision ≡ 1) × (positionNumber ByteCount ≡ 2) × (positionNumber Data ≡ 3)

@@ -1,6 +1,6 @@
 // A stored list, vector after vector.
 use crate::report;
-use replay::WAYS;
+use vector::WAYS;
 
 // How many vectors there are so far, and how many of them disagree.
 struct Seen {
@@ -53,7 +53,7 @@ fn agrees(path: &[u8], number: u64, line: &[u8]) -> bool {
 }
 
 fn agrees_in(way: usize, path: &[u8], number: u64, line: &[u8]) -> bool {
-    let replayed = replay::replay(line, way);
+    let replayed = vector::replay(line, way);
     if replayed.agrees {
         return true;
     }

@@ -1,18 +1,18 @@
 // What the program writes: a line for each disagreement, and one for each list; on standard error, which list could not be replayed.
 use libc::STDERR_FILENO;
 use libc::STDOUT_FILENO;
-use replay::Replayed;
+use vector::Replayed;
 
 // Says what the replay of a vector does.
 pub(crate) fn disagreement(path: &[u8], number: u64, replayed: Replayed) {
-    vector(path, number);
+    name(path, number);
     let text = replayed.text;
     put_first(&text, replayed.end);
     put(b"\n");
 }
 
 // Names a vector by its list and its number there, counted from 1.
-fn vector(path: &[u8], number: u64) {
+fn name(path: &[u8], number: u64) {
     put(path);
     put(b": vector ");
     io::print_decimal(STDOUT_FILENO, number);

@@ -6,7 +6,7 @@ use crate::words;
 use serial::Receiver;
 
 // Room for the text of a vector's results, longer than any line may be.
-pub const ROOM: usize = 16384;
+pub(crate) const ROOM: usize = 16384;
 
 pub(crate) struct Results {
     pub text: [u8; ROOM],

@@ -1,8 +1,8 @@
--- `replay::calls::filled` is safe and ends. The loop's invariant: the place is within the output. Assumes nothing.
+-- `vector::calls::filled` is safe and ends. The loop's invariant: the place is within the output. Assumes nothing.
 use Prim.Native.Nat.{_-_, _≤_}
 use borrow.Author.Needs.{needs}
-use Rattle.replay.proofs.calls.filled.Statement.{statement}
-use Rattle.replay.proofs.calls.filled.Tie as tie
+use Rattle.vector.proofs.calls.filled.Statement.{statement}
+use Rattle.vector.proofs.calls.filled.Tie as tie
 
 abbrev Inv-loop : tie.InvT-loop
 Inv-loop out₀ i₀ out i = i ≤ 2048

@@ -1,10 +1,10 @@
--- `replay::receivers::piece_at` is safe: what is cut off before the place is within the piece. Assumes nothing.
+-- `vector::receivers::piece_at` is safe: what is cut off before the place is within the piece. Assumes nothing.
 use Prim.Native.Nat.{ℕ, _%_, _≤_, _<_}
 use native.Mathlib.Nat.{mod-lt}
 use native.Mathlib.Omega.{arith}
 use borrow.Author.Needs.{needs}
-use Rattle.replay.proofs.receivers.piece_at.Statement.{statement}
-use Rattle.replay.proofs.receivers.piece_at.Tie as tie
+use Rattle.vector.proofs.receivers.piece_at.Statement.{statement}
+use Rattle.vector.proofs.receivers.piece_at.Tie as tie
 
 -- a remainder is within what it is a remainder of
 rem-within : (n m : ℕ) → 0 < m → n % m ≤ m

@@ -2,13 +2,12 @@
 // compared. Nothing here is part of the port: it is a test of it.
 mod arguments;
 mod calls;
+mod compare;
 mod fields;
 mod receivers;
 mod results;
-mod vector;
 mod words;
 
 pub use calls::WAYS;
-pub use results::ROOM;
-pub use vector::Replayed;
-pub use vector::replay;
+pub use compare::Replayed;
+pub use compare::replay;

@@ -1,9 +1,9 @@
--- `replay::fields::row_of` is safe and ends. The loop's invariant: the row is within the length of the table. Assumes nothing.
+-- `vector::fields::row_of` is safe and ends. The loop's invariant: the row is within the length of the table. Assumes nothing.
 use Prim.Native.Nat.{_-_, _≤_}
 use lib.ListN.{length}
 use borrow.Author.Needs.{needs}
-use Rattle.replay.proofs.fields.row_of.Statement.{statement}
-use Rattle.replay.proofs.fields.row_of.Tie as tie
+use Rattle.vector.proofs.fields.row_of.Statement.{statement}
+use Rattle.vector.proofs.fields.row_of.Tie as tie
 
 abbrev Inv-loop : tie.InvT-loop
 Inv-loop name table k₀ k = k ≤ length table

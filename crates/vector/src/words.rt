@@ -18,6 +18,9 @@ const REASON: usize = 6;
 
 pub(crate) const POSITION: usize = 10;
 
+// How many positions there are.
+pub(crate) const POSITIONS: usize = 7;
+
 // The word for whether a state is consistent.
 pub(crate) fn of_consistent(is_consistent: bool) -> usize {
     if is_consistent {

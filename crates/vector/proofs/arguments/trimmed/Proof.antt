@@ -1,9 +1,9 @@
--- `replay::arguments::trimmed` is safe and ends. The loop's invariant: the end is within the bytes. Assumes nothing.
+-- `vector::arguments::trimmed` is safe and ends. The loop's invariant: the end is within the bytes. Assumes nothing.
 use Prim.Native.Nat.{_≤_}
 use lib.ListN.{length}
 use borrow.Author.Needs.{needs}
-use Rattle.replay.proofs.arguments.trimmed.Statement.{statement}
-use Rattle.replay.proofs.arguments.trimmed.Tie as tie
+use Rattle.vector.proofs.arguments.trimmed.Statement.{statement}
+use Rattle.vector.proofs.arguments.trimmed.Tie as tie
 
 abbrev Inv-loop : tie.InvT-loop
 Inv-loop bytes end₀ end = end ≤ length bytes

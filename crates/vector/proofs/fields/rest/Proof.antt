@@ -1,9 +1,9 @@
--- `replay::fields::rest` is safe and ends. The loop's invariant: the place is within the text. Assumes nothing.
+-- `vector::fields::rest` is safe and ends. The loop's invariant: the place is within the text. Assumes nothing.
 use Prim.Native.Nat.{_≤_}
 use lib.ListN.{length}
 use borrow.Author.Needs.{needs}
-use Rattle.replay.proofs.fields.rest.Statement.{statement}
-use Rattle.replay.proofs.fields.rest.Tie as tie
+use Rattle.vector.proofs.fields.rest.Statement.{statement}
+use Rattle.vector.proofs.fields.rest.Tie as tie
 
 abbrev Inv-loop : tie.InvT-loop
 Inv-loop text k between start₀ left₀ start left = start ≤ length text

@@ -1,4 +1,4 @@
-// A vector, replayed.
+// A vector replayed, and compared with what is stored.
 use crate::arguments;
 use crate::calls;
 use crate::fields;
@@ -59,6 +59,7 @@ fn told(call: &[u8], way: &[u8], given: &[u8], stored: &[u8]) -> Results {
         .then(stored)
 }
 
+// The same with the text that says it.
 fn said(agrees: bool, results: Results) -> Replayed {
     let text = results.text;
     Replayed {

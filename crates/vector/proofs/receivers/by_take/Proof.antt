@@ -1,8 +1,8 @@
--- `replay::receivers::by_take` is safe and ends: the turns are counted down. Assumes nothing.
+-- `vector::receivers::by_take` is safe and ends: the turns are counted down. Assumes nothing.
 use Prim.Native.Nat.{_≤_}
 use borrow.Author.Needs.{needs}
-use Rattle.replay.proofs.receivers.by_take.Statement.{statement}
-use Rattle.replay.proofs.receivers.by_take.Tie as tie
+use Rattle.vector.proofs.receivers.by_take.Statement.{statement}
+use Rattle.vector.proofs.receivers.by_take.Tie as tie
 
 abbrev Inv-loop : tie.InvT-loop
 Inv-loop stream piece allowance state₀ results₀ place₀ turns₀ t12 state results place turns = turns ≤ turns₀

@@ -3,7 +3,7 @@
 //     b  bytes                          n  a number
 //     s  a state's stored bytes         r  the room of a lent output
 //     x  a byte or an address           k  plain or pec: 0 or 1
-//     p  a position, by its place       =  the sign
+//     p  a position, by its number      =  the sign
 use crate::fields;
 use crate::words;
 use serial::STORED_SIZE;
@@ -131,7 +131,7 @@ impl Numbers {
 fn read_field(kind: u8, field: &[u8]) -> Field {
     match kind {
         b'x' => byte(field),
-        b'p' => word(field, words::POSITION, 7),
+        b'p' => word(field, words::POSITION, words::POSITIONS),
         b'k' => word(field, words::KIND, 2),
         b'n' => decimal(field, HIGHEST),
         b'r' => other(decimal(field, LONGEST).ok),
@@ -177,6 +177,7 @@ fn number(ok: bool, value: usize) -> Field {
     }
 }
 
+// A byte as a wider number: a value that a function is given is known to be a byte, one that is read from an array is not.
 fn wide(b: u8) -> usize {
     b as usize
 }

@@ -1,9 +1,9 @@
--- `replay::receivers::by_step` is safe and ends. The loop's invariant: the place is within the stream. Assumes nothing.
+-- `vector::receivers::by_step` is safe and ends. The loop's invariant: the place is within the stream. Assumes nothing.
 use Prim.Native.Nat.{_-_, _≤_}
 use lib.ListN.{length}
 use borrow.Author.Needs.{needs}
-use Rattle.replay.proofs.receivers.by_step.Statement.{statement}
-use Rattle.replay.proofs.receivers.by_step.Tie as tie
+use Rattle.vector.proofs.receivers.by_step.Statement.{statement}
+use Rattle.vector.proofs.receivers.by_step.Tie as tie
 
 abbrev Inv-loop : tie.InvT-loop
 Inv-loop stream state₀ results₀ i₀ state results i = i ≤ length stream

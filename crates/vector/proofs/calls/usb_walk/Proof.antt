@@ -1,8 +1,8 @@
--- `replay::calls::usb_walk` is safe and ends: the turns are counted down. Assumes nothing.
+-- `vector::calls::usb_walk` is safe and ends: the turns are counted down. Assumes nothing.
 use Prim.Native.Nat.{_≤_}
 use borrow.Author.Needs.{needs}
-use Rattle.replay.proofs.calls.usb_walk.Statement.{statement}
-use Rattle.replay.proofs.calls.usb_walk.Tie as tie
+use Rattle.vector.proofs.calls.usb_walk.Statement.{statement}
+use Rattle.vector.proofs.calls.usb_walk.Tie as tie
 
 abbrev Inv-loop : tie.InvT-loop
 Inv-loop transfer start results₀ place₀ turns₀ results place turns = turns ≤ turns₀

@@ -1,9 +1,9 @@
--- `replay::arguments::read_numbers` is safe and ends. The loop's invariant: the field is one of the form. Assumes nothing.
+-- `vector::arguments::read_numbers` is safe and ends. The loop's invariant: the field is one of the form. Assumes nothing.
 use Prim.Native.Nat.{_≤_}
 use lib.ListN.{length}
 use borrow.Author.Needs.{needs}
-use Rattle.replay.proofs.arguments.read_numbers.Statement.{statement}
-use Rattle.replay.proofs.arguments.read_numbers.Tie as tie
+use Rattle.vector.proofs.arguments.read_numbers.Statement.{statement}
+use Rattle.vector.proofs.arguments.read_numbers.Tie as tie
 
 abbrev Inv-loop : tie.InvT-loop
 Inv-loop line form numbers₀ k₀ numbers k = k ≤ length form
