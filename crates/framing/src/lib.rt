@@ -1,4 +1,6 @@
 // The serial frame of MCTP (DSP0253): the bytes that it gives a meaning, and the frame writer.
+#![tactic(auto)]
+
 mod frame;
 mod wire;
 

@@ -1,6 +1,8 @@
 // Reads a serial line's raw bytes from standard input to its end, and writes each packet as a line of lower-case hex, then a closing line. What each
 // read brings is listed and written before the next one, so that it can follow a live line. Which bytes are a packet, and every byte of the text,
 // `listing` decides.
+#![tactic(auto)]
+
 ghost use Rattle.std.specs.Prelude.{◌≡◌};
 ghost use Rattle.receive.specs.declared.Came.TheVariants.{Failure};
 ghost use Rattle.receive.specs.Follow.{ListedOn, stopped_as, total_of};

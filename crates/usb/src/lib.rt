@@ -1,4 +1,6 @@
 // The USB binding of MCTP (DSP0283 1.0.1): a packet's header and its decode. The crate `transfer` has builder and walker.
+#![tactic(auto)]
+
 mod decoder;
 mod head;
 mod wire;

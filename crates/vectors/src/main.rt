@@ -1,5 +1,7 @@
 // Replays the stored lists in data/ and says what disagrees. The gate, which holds what this program writes, then fails. Nothing here is part of the port: it is
 // a test of it.
+#![tactic(auto)]
+
 ghost use Rattle.io.specs.Counts.{IsPrefixLen};
 
 mod lists;
