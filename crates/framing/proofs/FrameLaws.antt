@@ -135,14 +135,14 @@ read_rest b line = go (eqb b flag) (eqb b escape) refl
     go false false q = simp q
 
 -- an escaped packet reads back, whatever stands behind it
-read_back : (packet line : List ℕ) → read_back (length packet) (escaped_all packet ++ line) ≡ packet
+read_back-escaped : (packet line : List ℕ) → read_back (length packet) (escaped_all packet ++ line) ≡ packet
 unfolding escaped_all read_back
-read_back [] line = refl
-read_back (b ∷ bs) line =
+read_back-escaped [] line = refl
+read_back-escaped (b ∷ bs) line =
     let rest = escaped_all bs ++ line in
     ap (λ (whole : List ℕ). byte_read whole ∷ read_back (length bs) (rest_read whole)) (append_assoc (escaped b) (escaped_all bs) line)
     ∙ ap₂ (λ (first : ℕ) (behind : List ℕ). first ∷ read_back (length bs) behind) (read_first b rest) (read_rest b rest)
-    ∙ ap (λ (packet : List ℕ). b ∷ packet) (read_back bs line)
+    ∙ ap (λ (packet : List ℕ). b ∷ packet) (read_back-escaped bs line)
 
 -- the packet whose count and bytes stand behind a revision
 packet_behind : List ℕ → List ℕ
@@ -150,7 +150,7 @@ packet_behind line = read_back (get_or line 1 0) (drop 2 line)
 
 read_packet : (packet : List ℕ) → packet_behind (behind_flag packet) ≡ packet
 unfolding packet_behind
-read_packet packet = read_back packet (check_bytes packet ++ (flag ∷ []))
+read_packet packet = read_back-escaped packet (check_bytes packet ++ (flag ∷ []))
 
 pub same_behind_flag : SameBehindFlag
 same_behind_flag p q e = sym (read_packet p) ∙ ap packet_behind e ∙ read_packet q

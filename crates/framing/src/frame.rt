@@ -12,7 +12,7 @@ use crate::wire::{
 };
 
 // What the writer answers: the frame's length, or number 1 or 2.
-#[derive(Drop)]
+#[derive(Clone, Copy)]
 pub enum Written {
     Done(usize),
     BadLength,
@@ -95,7 +95,7 @@ fn write_byte(b: u8, out: &mut [u8], place: usize) -> usize
 }
 
 // How far the writer is: the place behind what it has written, and the check's register after it.
-#[derive(Drop)]
+#[derive(Clone, Copy)]
 struct Progress {
     place: usize,
     register: u32,

@@ -7,7 +7,7 @@ ghost use Rattle.i2c.specs.Decode.{body_answer, decode_answer, decoded_answer, p
 use crate::wire::{MCTP_I2C_COMMAND_CODE, MCTP_I2C_HEADER};
 
 // What decode answers: the source address, or number 5.
-#[derive(Drop)]
+#[derive(Clone, Copy)]
 pub enum Decoded {
     From(u8),
     InvalidInput,

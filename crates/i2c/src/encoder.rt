@@ -8,7 +8,7 @@ ghost use Rattle.i2c.specs.Frame.{address_most, payload_most, plain, with_pec};
 use crate::wire::{ADDRESS_MAX, MCTP_I2C_COMMAND_CODE, MCTP_I2C_HEADER, MCTP_I2C_MAXMTU};
 
 // What encode answers: the length written, or number 4 or 3.
-#[derive(Drop)]
+#[derive(Clone, Copy)]
 pub enum Encoded {
     Done(usize),
     BadAddress,

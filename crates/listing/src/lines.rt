@@ -15,7 +15,7 @@ use serial::{Reason, Receiver, STORED_SIZE};
 const STORED_TEXT: usize = 2 * STORED_SIZE;
 
 // What `list` answers: the length of the text, or number 2 or 9.
-#[derive(Drop)]
+#[derive(Clone, Copy)]
 pub enum Lines {
     Done(usize),
     ShortOutput,
@@ -47,7 +47,7 @@ impl Lines {
 }
 
 // The answer, how many packets were listed, and the state after it.
-#[derive(Drop)]
+#[derive(Clone, Copy)]
 pub struct Listed {
     pub answer: Lines,
     pub packets: usize,
@@ -65,7 +65,7 @@ fn has_room(size: usize, room: usize) -> bool
 }
 
 // What the line of a packet makes of a text: the place behind it, and the packets, one or none.
-#[derive(Drop)]
+#[derive(Clone, Copy)]
 struct Added {
     used: usize,
     packets: usize,
@@ -88,7 +88,7 @@ fn put_packet(reason: Reason, room: &[u8], out: &mut [u8], used: usize) -> Added
 }
 
 // What a call of the taker adds: the bytes that it took, the place behind the text, the packets, and the state after it.
-#[derive(Drop)]
+#[derive(Clone, Copy)]
 struct Turn {
     taken: usize,
     used: usize,

@@ -17,7 +17,7 @@ const READ: usize = 32768;
 const TEXT: usize = 2 * READ + 2 * STORED_SIZE;
 
 // What a read came to: bytes that were listed, the input's end, or a failure, which standard error has heard of.
-#[derive(Drop)]
+#[derive(Clone, Copy)]
 enum Came {
     Bytes,
     End,
@@ -25,7 +25,7 @@ enum Came {
 }
 
 // A line that is being read: what the last read came to, the receiver, and how many bytes and packets there were.
-#[derive(Drop)]
+#[derive(Clone, Copy)]
 struct Line {
     came: Came,
     receiver: Receiver,

@@ -15,7 +15,7 @@ use crate::taker::{Cause, Stopped};
 use framing::{ESCAPE_ESCAPED, FLAG_ESCAPED, FRAMING_ESCAPE, FRAMING_FLAG, MCTP_SERIAL_REVISION};
 
 // A receiver's state without its stored bytes.
-#[derive(Drop)]
+#[derive(Clone, Copy)]
 pub(crate) struct Head {
     pub(crate) position: Position,
     pub(crate) count: usize,
@@ -23,14 +23,14 @@ pub(crate) struct Head {
 }
 
 // What a byte gives from a consistent state: nothing, or a packet of so many bytes.
-#[derive(Drop)]
+#[derive(Clone, Copy)]
 pub(crate) enum Event {
     Nothing,
     Packet(usize),
 }
 
 // What a byte gives, and the head after it.
-#[derive(Drop)]
+#[derive(Clone, Copy)]
 pub(crate) struct Moved {
     pub(crate) event: Event,
     pub(crate) head: Head,

@@ -12,7 +12,7 @@ use crate::receiver::{Outcome, Receiver};
 use crate::rows::Head;
 
 // Why the taker stopped: a packet of so many bytes, the input's end, the allowance's, number 2 or number 9.
-#[derive(Drop)]
+#[derive(Clone, Copy)]
 pub enum Reason {
     Packet(usize),
     InputEnded,
@@ -21,7 +21,7 @@ pub enum Reason {
     Inconsistent,
 }
 
-#[derive(Drop)]
+#[derive(Clone, Copy)]
 pub struct Taken {
     pub reason: Reason,
     pub taken: usize,
@@ -29,7 +29,7 @@ pub struct Taken {
 }
 
 // Why taking bytes from a consistent state stopped.
-#[derive(Drop)]
+#[derive(Clone, Copy)]
 pub(crate) enum Cause {
     Packet(usize),
     InputEnded,
@@ -37,7 +37,7 @@ pub(crate) enum Cause {
 }
 
 // What taking bytes gives, and the head after it.
-#[derive(Drop)]
+#[derive(Clone, Copy)]
 pub(crate) struct Stopped {
     pub(crate) cause: Cause,
     pub(crate) taken: usize,

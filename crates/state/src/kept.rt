@@ -21,7 +21,7 @@ pub fn step(bytes: &mut [u8], b: u8) -> Outcome
 }
 
 // Why the taker stopped, and how many bytes it took.
-#[derive(Drop)]
+#[derive(Clone, Copy)]
 pub struct Took {
     pub reason: Reason,
     pub taken: usize,

@@ -9,7 +9,7 @@ use crate::digits::{all_digits, digit_value};
 use crate::plain::put;
 
 // Whether a text was read, and its number; 0 where it was not.
-#[derive(Drop)]
+#[derive(Clone, Copy)]
 pub struct DecimalRead {
     pub ok: bool,
     pub value: u64,

@@ -12,7 +12,7 @@ use crate::plain::has_room;
 const LINE_FEED: u8 = b'\n';
 
 // Whether a text was read, and how many bytes it has; 0 where it was not.
-#[derive(Drop)]
+#[derive(Clone, Copy)]
 pub struct HexRead {
     pub ok: bool,
     pub count: usize,

@@ -10,7 +10,7 @@ use usb::{HDR_LEN, MCTP_USB_MTU_MAX};
 const TX_XFER_SIZE: usize = 512;
 
 // What the builder answers: done, or number 6 or 8.
-#[derive(Drop)]
+#[derive(Clone, Copy)]
 pub enum Appended {
     Done,
     BadPacket,
@@ -31,7 +31,7 @@ impl Appended {
 }
 
 // The answer, and the used count after it.
-#[derive(Drop)]
+#[derive(Clone, Copy)]
 pub struct Built {
     pub answer: Appended,
     pub used: usize,

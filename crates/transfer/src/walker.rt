@@ -7,7 +7,7 @@ ghost use Rattle.transfer.specs.Walk.{Starts, Yields, found_part, place_after, w
 use usb::{Decoded, HDR_LEN};
 
 // What a walker answers at its place: the packet's length, the end, or number 7.
-#[derive(Drop)]
+#[derive(Clone, Copy)]
 pub enum Walked {
     Packet(usize),
     End,
@@ -92,14 +92,14 @@ pub fn place_after(transfer: &[u8], place: usize) -> usize
 }
 
 // A transfer and a place in it.
-#[derive(Drop)]
+#[derive(Clone, Copy)]
 pub struct Walker<'a> {
     pub transfer: &'a [u8],
     pub place: usize,
 }
 
 // An answer, its packet as a part of the transfer, and the walker behind it.
-#[derive(Drop)]
+#[derive(Clone, Copy)]
 pub struct Yielded<'a> {
     pub walker: Walker<'a>,
     pub packet: &'a [u8],

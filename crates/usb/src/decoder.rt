@@ -7,7 +7,7 @@ ghost use Rattle.usb.specs.Decode.{decode_answer, decoded_answer, packet_part, r
 use crate::wire::{FIRST_BYTE, HDR_LEN, SECOND_BYTE};
 
 // What decode answers: the packet's length, or number 7.
-#[derive(Drop)]
+#[derive(Clone, Copy)]
 pub enum Decoded {
     Packet(usize),
     RxFailure,

@@ -5,7 +5,7 @@ ghost use Rattle.usb.specs.Header.{headed_answer, header_answer, header_output};
 use crate::wire::{FIRST_BYTE, HDR_LEN, MCTP_USB_MTU_MAX, SECOND_BYTE};
 
 // What header answers: done, or number 6.
-#[derive(Drop)]
+#[derive(Clone, Copy)]
 pub enum Headed {
     Done,
     BadPacket,

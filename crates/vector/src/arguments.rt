@@ -15,7 +15,7 @@ pub(crate) const LONGEST: usize = 2048;
 const HIGHEST: usize = 99999;
 
 // What the fields hold, and whether they are of the form.
-#[derive(Drop)]
+#[derive(Clone, Copy)]
 pub(crate) struct Arguments {
     pub ok: bool,
     pub numbers: Numbers,
@@ -26,7 +26,7 @@ pub(crate) struct Arguments {
 }
 
 // The fields that are numbers, or stand for one, in their order; and whether all fields are of the form.
-#[derive(Drop)]
+#[derive(Clone, Copy)]
 pub(crate) struct Numbers {
     pub ok: bool,
     pub first: usize,
@@ -36,7 +36,7 @@ pub(crate) struct Numbers {
 }
 
 // A field: whether it is of the form, whether it is a number, and which.
-#[derive(Drop)]
+#[derive(Clone, Copy)]
 struct Field {
     ok: bool,
     is_number: bool,

@@ -3,7 +3,7 @@ use crate::results::{ROOM, Results};
 use crate::{arguments, calls, fields, results};
 
 // Whether the vector agrees, and a text, up to its end, that says where it does not.
-#[derive(Drop)]
+#[derive(Clone, Copy)]
 pub struct Replayed {
     pub agrees: bool,
     pub text: [u8; ROOM],

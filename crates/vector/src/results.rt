@@ -6,7 +6,7 @@ use serial::Receiver;
 // Room for the text of a vector's results, longer than any line may be.
 pub(crate) const ROOM: usize = 16384;
 
-#[derive(Drop)]
+#[derive(Clone, Copy)]
 pub(crate) struct Results {
     pub text: [u8; ROOM],
     pub end: usize,

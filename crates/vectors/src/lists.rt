@@ -3,7 +3,7 @@ use crate::report;
 use vector::WAYS;
 
 // How many vectors there are so far, and how many of them disagree.
-#[derive(Drop)]
+#[derive(Clone, Copy)]
 struct Seen {
     vectors: u64,
     disagree: u64,

@@ -15,7 +15,7 @@ const LISTS: [u8; 161] =
 // Room for the longest list. The bytes are a value of their own: an array that is made where it is lent is counted out by the proof.
 const ROOM: usize = 524288;
 
-#[derive(Drop)]
+#[derive(Clone, Copy)]
 struct Room {
     bytes: [u8; ROOM],
 }

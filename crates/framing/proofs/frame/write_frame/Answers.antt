@@ -7,7 +7,6 @@ use mathlib.Core.List.{List, [], ◌∷◌, ◌++◌}
 use native.Mathlib.Nat.{mod-eq_of_lt}
 use native.Mathlib.Omega.{arith}
 use lib.ListN.{length}
-use borrow.Author.Rules.{rules}
 use Rattle.checks.specs.FrameCheck.{frame_check, frame_check_from, frame_register}
 use Rattle.checks.specs.Laws.{Bytes}
 use Rattle.checks.specs.Register.{byte_step, check_from}
@@ -15,8 +14,7 @@ use Rattle.checks.specs.Output.{at_start, put_at}
 use Rattle.checks.proofs.Output.{length_put, put_put}
 use Rattle.framing.specs.Frame.{flag, revision, escaped_all, covered, check_bytes, frame, packet_most}
 use Rattle.framing.proofs.FrameLaws.{check_below, frame_room}
-use Rattle.framing.proofs.frame.write_frame.Statement.{statement}
-use Rattle.framing.proofs.frame.write_frame.Tie as tie
+use Rattle.framing.proofs.frame.write_frame.Goals as goal
 
 -- what stands before the packet's bytes, and behind them
 abbrev opening : List ℕ → List ℕ
@@ -71,76 +69,28 @@ all-written packet out opened filled closed last end room eo ee ef el ec =
     ∙ ap₂ (λ (n : ℕ) (xs : List ℕ). put_at n (closing packet) xs) place both
     ∙ put_put 0 (opening packet ++ sent) (closing packet) out (omega (arith, frame_room packet))
 
-cast-count : tie.Need-overflow-cast-count
-cast-count c = search rules
+pub write_three-requires : goal.write_three-requires
+write_three-requires c = omega (arith, frame_room c.args.packet.now)
 
-cast-frame-next : tie.Need-overflow-cast-frame-next
-cast-frame-next c = search rules
+pub write_escaped-end-requires : goal.write_escaped-end-requires
+write_escaped-end-requires c =
+    let packet = c.args.packet.now in
+    omega (arith, frame_room packet, opened-length packet c.args.out.now _ c.requires.1 c.write_three.ensures)
 
-frame-next-requires : tie.Need-frame-next-requires
-frame-next-requires c κs = search rules
-
-frame-next-requires-2 : tie.Need-frame-next-requires-2
-frame-next-requires-2 c κs = search rules
-
-write-three-requires : tie.Need-write-three-requires
-write-three-requires c κs = omega (arith, frame_room c.before.before.before.before.before.args.packet.now)
-
-write-escaped-requires : tie.Need-write-escaped-requires
-write-escaped-requires c κs =
-    let w = c.before.before.before in
-    let a = w.before.before.before.before.before.before in
-    let packet = a.args.packet.now in
-    omega (arith, frame_room packet, opened-length packet a.args.out.now _ a.requires.1 w.write-three.ensures)
-
-cast-high : tie.Need-overflow-cast-high
-cast-high c = search rules
-
-cast-low : tie.Need-overflow-cast-low
-cast-low c = search rules
-
-write-three-requires-2 : tie.Need-write-three-requires-2
-write-three-requires-2 c κs =
-    let e = c.before.before.before in
-    let w = e.before.before.before.before in
-    let a = w.before.before.before.before.before.before in
+pub write_three-requires-2 : goal.write_three-requires-2
+write_three-requires-2 c =
     omega (
       arith,
-      a.requires.1,
-      frame_room a.args.packet.now,
-      e.write-escaped.ensures.0,
-      filled-length a.args.packet.now a.args.out.now _ _ a.requires.1 w.write-three.ensures e.write-escaped.ensures.1.1,
+      c.requires.1,
+      frame_room c.args.packet.now,
+      c.write_escaped-end.ensures.place_value,
+      filled-length c.args.packet.now c.args.out.now _ _ c.requires.1 c.write_three.ensures c.write_escaped-end.ensures.out_after,
     )
 
-same_length : tie.Need-same-length
-same_length c = search rules
-
-returns : tie.Need-returns
+pub returns : goal.returns
 returns c =
-    let t = c.before.before in
-    let e = t.before.before.before.before in
-    let w = e.before.before.before.before in
-    let n = w.before.before in
-    let m = n.before in
-    let a = m.before.before.before in
-    let packet = a.args.packet.now in
-    let check = check-covered packet _ _ _ m.frame-next.ensures n.frame-next2.ensures e.write-escaped.ensures.1.0 in
-    let last = closing-bytes packet _ (λ i. (m.before.before.shared-slice-known.given i).fits) a.requires.0 check in
-    all-written packet a.args.out.now _ _ _ _ _ a.requires.1 w.write-three.ensures e.write-escaped.ensures.0
-    e.write-escaped.ensures.1.1 last t.write-three2.ensures
-
-pub write-frame-spec : {M : Type 1} → statement M
-write-frame-spec =
-    tie.close
-    (tie.spec
-    cast-count
-    cast-frame-next
-    frame-next-requires
-    frame-next-requires-2
-    write-three-requires
-    write-escaped-requires
-    cast-high
-    cast-low
-    write-three-requires-2
-    same_length
-    returns)
+    let packet = c.args.packet.now in
+    let check = check-covered packet _ _ _ c.frame_next-revised.ensures c.frame_next-counted.ensures c.write_escaped-end.ensures.register_value in
+    let last = closing-bytes packet _ (λ i. (c.type_inv.packet i).fits) c.requires.0 check in
+    all-written packet c.args.out.now _ _ _ _ _ c.requires.1 c.write_three.ensures c.write_escaped-end.ensures.place_value
+    c.write_escaped-end.ensures.out_after last c.write_three-2.ensures

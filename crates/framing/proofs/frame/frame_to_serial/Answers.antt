@@ -6,7 +6,6 @@ use mathlib.Core.Bool.{true}
 use mathlib.Core.List.{List, [], ◌∷◌}
 use native.Mathlib.Omega.{arith}
 use lib.ListN.{length}
-use borrow.Author.Rules.{rules}
 use borrow.Author.Tests.{le-leb, lt-leb}
 use Rattle.checks.specs.Numbers.{answer, done, short_output}
 use Rattle.framing.specs.Numbers.{bad_length}
@@ -14,8 +13,7 @@ use Rattle.framing.specs.Frame.{frame, packet_least, packet_most}
 use Rattle.framing.specs.Writer.{output_of, sendable, writer_answer}
 use Rattle.framing.proofs.FrameLaws.{escapes_most, frame_length}
 use Rattle.framing.proofs.Writer.{sendable_within}
-use Rattle.framing.proofs.frame.frame_to_serial.Statement.{statement}
-use Rattle.framing.proofs.frame.frame_to_serial.Tie as tie
+use Rattle.framing.proofs.frame.frame_to_serial.Goals as goal
 
 too_short : (packet : List ℕ) (room : ℕ) → length packet < packet_least → answer bad_length [] ≡ writer_answer packet room
 unfolding writer_answer
@@ -35,59 +33,51 @@ unfolding writer_answer
 with-room packet room n h e fits =
     simp (h, le-leb (length (frame packet)) room (omega arith)) (ap (λ (m : ℕ). answer done (m ∷ [])) e)
 
-returns : tie.Need-returns
+pub returns-then-count-lt-PACKET_LEAST : goal.returns-then-count-lt-PACKET_LEAST
 unfolding output_of
-returns c = (too_short _ _ (omega arith), refl)
+returns-then-count-lt-PACKET_LEAST c = record {
+        result_value = too_short _ _ (omega arith);
+        out_after = refl;
+    }
 
-returns-2 : tie.Need-returns-2
+pub returns-then-count-gt-PACKET_MOST : goal.returns-then-count-gt-PACKET_MOST
 unfolding output_of
-returns-2 c = (too_long _ _ (omega arith), refl)
+returns-then-count-gt-PACKET_MOST c = record {
+        result_value = too_long _ _ (omega arith);
+        out_after = refl;
+    }
 
-escapes-in-requires : tie.Need-escapes-in-requires
-escapes-in-requires c κs = search rules
-
-add-len : tie.Need-overflow-add-len
-add-len c =
-    let e = escapes_most c.before.before.before.before.before.args.packet.now in
+pub overflow_add-len : goal.overflow_add-len
+overflow_add-len c =
+    let e = escapes_most c.args.packet.now in
     record { fits = omega arith }
 
-add-len-2 : tie.Need-overflow-add-len-2
-add-len-2 c =
-    let e = escapes_most c.before.before.before.before.before.args.packet.now in
+pub overflow_add-len-2 : goal.overflow_add-len-2
+overflow_add-len-2 c =
+    let e = escapes_most c.args.packet.now in
     record { fits = omega arith }
 
-returns-3 : tie.Need-returns-3
+pub returns-then-out-len : goal.returns-then-out-len
 unfolding output_of
-returns-3 c =
-    let packet = c.before.before.before.before.before.before.args.packet.now in
+returns-then-out-len c =
+    let packet = c.args.packet.now in
     let e = frame_length packet in
-    (no_room packet _ (sendable_within packet (omega arith) (omega arith)) (omega arith), refl)
+    record {
+        result_value = no_room packet _ (sendable_within packet (omega arith) (omega arith)) (omega arith);
+        out_after = refl;
+    }
 
-write-frame-requires : tie.Need-write-frame-requires
-write-frame-requires c κs =
-    let e = frame_length c.before.before.before.before.before.before.before.args.packet.now in
+pub write_frame-requires : goal.write_frame-requires
+write_frame-requires c =
+    let e = frame_length c.args.packet.now in
     (omega arith, omega arith)
 
-same_length : tie.Need-same-length
-same_length c = search rules
-
-returns-4 : tie.Need-returns-4
+pub returns : goal.returns
 unfolding output_of
-returns-4 c =
-    let packet = c.before.before.before.before.before.before.before.before.before.before.args.packet.now in
+returns c =
+    let packet = c.args.packet.now in
     let e = frame_length packet in
-    (with-room packet _ _ (sendable_within packet (omega arith) (omega arith)) (omega arith) (omega arith), c.before.before.write-frame.ensures)
-
-pub frame-to-serial-spec : {M : Type 1} → statement M
-frame-to-serial-spec =
-    tie.close
-    (tie.spec
-    returns
-    returns-2
-    escapes-in-requires
-    add-len
-    add-len-2
-    returns-3
-    write-frame-requires
-    same_length
-    returns-4)
+    record {
+        result_value = with-room packet _ _ (sendable_within packet (omega arith) (omega arith)) (omega arith) (omega arith);
+        out_after = c.write_frame.ensures;
+    }
