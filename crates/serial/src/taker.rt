@@ -102,7 +102,7 @@ impl Cause {
     {
         match self {
             Cause::Packet(n) => {
-                bytes::copy(&stored[2..n + 2], out);
+                out[..n].copy_from_slice(&stored[2..n + 2]);
             }
             Cause::InputEnded => {}
             Cause::AllowanceSpent => {}

@@ -21,7 +21,7 @@ pub fn put(text: &[u8], out: &mut [u8], place: usize) -> usize
     ensures prefix_len { IsPrefixLen result out.new }
 {
     if has_room(place, text.len(), out.len()) {
-        bytes::copy(text, &mut out[place..]);
+        out[place..place + text.len()].copy_from_slice(text);
         return place + text.len();
     }
     out.len()
