@@ -1,0 +1,38 @@
+-- `load` meets its contract: by its two tests the buffer holds a state or none; then each field is read where the definition reads it, and the stored bytes
+-- are those behind the first four. Assumes nothing.
+use Prim.Native.Nat.{ℕ, ◌-◌}
+use mathlib.Core.Path.{◌≡◌, ◌∙◌, ap, sym}
+use mathlib.Core.List.{List, ◌++◌, append-nil}
+use native.Mathlib.Omega.{arith}
+use lib.ListN.{drop, drop_of_length-le, get_or, length, length-drop, replicate, length-replicate, take}
+use borrow.Author.Rules.{part_to_end}
+use Rattle.checks.proofs.Output.{start_copied}
+use Rattle.serial.specs.Receiver.{stored_size}
+use Rattle.state.specs.State.{state_of, state_size, stored_at}
+use Rattle.state.proofs.State.{loaded_known, loaded_other, loaded_unknown}
+use borrow.Author.Rules.{rules}
+use Rattle.state.proofs.buffer.load.Goals as goal
+
+pub returns-then-bytes-ne-STATE_SIZE : goal.returns-then-bytes-ne-STATE_SIZE
+returns-then-bytes-ne-STATE_SIZE c = c.no_state.ensures ∙ sym (loaded_other c.args.bytes.now c.if-bytes-ne-STATE_SIZE.true)
+
+pub returns-then-first-ge-NO_POSITION : goal.returns-then-first-ge-NO_POSITION
+returns-then-first-ge-NO_POSITION c =
+    c.no_state-then-first-ge-NO_POSITION.ensures
+    ∙ sym (loaded_unknown c.args.bytes.now c.if-bytes-ne-STATE_SIZE.false c.if-first-ge-NO_POSITION.true)
+
+pub overflow_cast-count : goal.overflow_cast-count
+overflow_cast-count c = omega (arith, c.type_inv.bytes 1)
+
+pub returns : goal.returns
+returns c =
+    let bytes = c.args.bytes.now in
+    let fields : _ ≡ state_of bytes =
+    λ i.
+    record {
+      position = c.of-position.ensures i;
+      count = get_or bytes 1 0;
+      len = c.word-len.ensures i;
+      stored = (c.copy_from_slice.ensures.after ∙ part_to_end bytes stored_at) i;
+    } in
+    fields ∙ sym (loaded_known bytes c.if-bytes-ne-STATE_SIZE.false c.if-first-ge-NO_POSITION.false)
