@@ -1,4 +1,4 @@
--- Laws of `putEnd` and `putText`: where the text fits they are the place behind it and a put; and puts that follow one another are one put of all their
+-- Laws of `put_end` and `put_text`: where the text fits they are the place behind it and a put; and puts that follow one another are one put of all their
 -- bytes, into an output that keeps its length. Assumes nothing.
 use Prim.Native.Nat.{ℕ, ◌+◌, ◌≤◌}
 use mathlib.Core.Path.{◌≡◌, ◌∙◌, ap, ap₂, sym}
@@ -21,18 +21,23 @@ with_room place text out h = let e = le-leb (place + length text) (length out) h
 
 -- what a function that puts a text says: the place behind it, the output, and that the place lies within it
 abbrev pub Puts : ℕ → List ℕ → List ℕ → ℕ → List ℕ → Type 0
-Puts place text out end after = (end ≡ put_end place text (length out)) × ((after ≡ put_text place text out) × IsPrefixLen end after)
+Puts place text out end after =
+    record { value : end ≡ put_end place text (length out); out_after : after ≡ put_text place text out; prefix_len : IsPrefixLen end after }
 
 pub all_put : (place : ℕ) (text out : List ℕ) (end : ℕ) (after : List ℕ) → fits place text (length out) ≡ true
     → end ≡ place + length text → after ≡ put_at place text out → Puts place text out end after
 all_put place text out end after e there put =
     let h = leb-true (place + length text) (length out) e in
     let same = with_room place text out h in
-    (there ∙ sym same.0, (put ∙ sym same.1, prefix_len_of_le end after (omega (arith, ap length put, length_put place text out h))))
+    record {
+      value = there ∙ sym same.0;
+      out_after = put ∙ sym same.1;
+      prefix_len = prefix_len_of_le end after (omega (arith, ap length put, length_put place text out h));
+    }
 
 pub none_put : (place : ℕ) (text out : List ℕ) → fits place text (length out) ≡ false → Puts place text out (length out) out
 unfolding put_end put_text
-none_put place text out e = (simp e, (simp e, prefix_len_of_le (length out) out (omega arith)))
+none_put place text out e = record { value = simp e; out_after = simp e; prefix_len = prefix_len_of_le (length out) out (omega arith) }
 
 -- ---- puts that follow one another
 

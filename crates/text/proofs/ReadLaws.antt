@@ -89,18 +89,19 @@ pair_turn text i out b h room e =
 
 -- what `read_hex` says: its answer, the output, and that the bytes lie within it
 abbrev ReadsHex : List ℕ → List ℕ → HexRead → List ℕ → Type 0
-ReadsHex text out said after = (said ≡ hex_read text (length out)) × ((after ≡ hex_output text out) × IsPrefixLen said.count after)
+ReadsHex text out said after =
+    record { value : said ≡ hex_read text (length out); out_after : after ≡ hex_output text out; prefix_len : IsPrefixLen said.count after }
 
 pub hex-read : (text out after : List ℕ) → hex_fits text (length out) ≡ true → length text / 2 ≤ length out → after ≡ at_start (hex_bytes text) out
     → ReadsHex text out (record { ok = true; count = length text / 2 }) after
 unfolding hex_read hex_output
 hex-read text out after e room put =
     let sized : length after ≡ length out = ap length put ∙ length_start (hex_bytes text) out (omega (arith, pairs_length text)) in
-    (simp e, (simp e put, prefix_len_of_le (length text / 2) after (omega arith)))
+    record { value = simp e; out_after = simp e put; prefix_len = prefix_len_of_le (length text / 2) after (omega arith) }
 
 pub hex_refused : (text out : List ℕ) → hex_fits text (length out) ≡ false → ReadsHex text out (record { ok = false; count = 0 }) out
 unfolding hex_read hex_output
-hex_refused text out e = (simp e, (simp e, prefix_len_of_le 0 out (omega arith)))
+hex_refused text out e = record { value = simp e; out_after = simp e; prefix_len = prefix_len_of_le 0 out (omega arith) }
 
 -- ---- decimal
 

@@ -6,7 +6,7 @@ use Rattle.io.specs.Digits.{hex_digit_ascii}
 abbrev pub line_feed : ℕ
 line_feed = 0x0a
 
--- a byte's two digits, the high one first; the kit's `glyph` is the ASCII code of a digit, `0` to `9` and then `a` to `f`
+-- a byte's two digits, the high one first; the kit's `hex_digit_ascii` is the ASCII code of a digit, `0` to `9` and then `a` to `f`
 abbrev pub hex_of : ℕ → List ℕ
 hex_of b = hex_digit_ascii (b / 16) ∷ hex_digit_ascii (b % 16) ∷ []
 

@@ -5,8 +5,7 @@ use mathlib.Core.Bool.{Bool, true, false}
 use native.Mathlib.Omega.{arith}
 use lib.Dec.{leb}
 use borrow.Author.Tests.{le-leb, leb-false, leb-true, lt-leb}
-use Rattle.text.proofs.plain.has_room.Statement.{statement}
-use Rattle.text.proofs.plain.has_room.Tie as tie
+use Rattle.text.proofs.plain.has_room.Goals as goal
 
 beyond : (place size room : ℕ) → room < place → false ≡ leb (place + size) room
 beyond place size room h = sym (lt-leb (place + size) room (omega arith))
@@ -18,11 +17,8 @@ behind place size room h = go (leb size (room - place)) refl
     go true e = sym (le-leb (place + size) room (let k = leb-true size (room - place) e in omega arith))
     go false e = sym (lt-leb (place + size) room (let k = leb-false size (room - place) e in omega arith))
 
-returns : tie.Need-returns
-returns c = beyond _ _ _ c.if1.true
+pub returns-then-room-place : goal.returns-then-room-place
+returns-then-room-place c = beyond _ _ _ c.if-room-place.true
 
-returns-2 : tie.Need-returns-2
-returns-2 c = behind _ _ _ c.if1.false
-
-pub has-room-spec : {M : Type 1} → statement M
-has-room-spec = tie.close (tie.spec returns returns-2)
+pub returns : goal.returns
+returns c = behind _ _ _ c.if-room-place.false
