@@ -15,18 +15,18 @@ use Rattle.usb.proofs.decoder.packet.Goals as goal
 
 pub overflow_add-result : goal.overflow_add-result
 overflow_add-result c =
-    omega (arith, gave_inside _ _ _ c.decode.ensures c.n-1.given.1)
+    omega (arith, gave_inside _ _ _ c.decode.ensures c.in-Packet.is)
 
 pub slice_bounds-result-end : goal.slice_bounds-result-end
 slice_bounds-result-end c =
-    omega (arith, gave_inside _ _ _ c.decode.ensures c.n-1.given.1)
+    omega (arith, gave_inside _ _ _ c.decode.ensures c.in-Packet.is)
 
 pub returns-in-Packet : goal.returns-in-Packet
 returns-in-Packet c =
     let s = c.args.input.now in
-    let size = add-sub_cancel_left header_size c.n-1.given.0.0 in
-    rw (matched decoded_answer c.decode.ensures c.n-1.given.1) (ap (λ (k : ℕ). take k (drop header_size s)) size, refl)
+    let size = add-sub_cancel_left header_size c.in-Packet.n in
+    rw (matched decoded_answer c.decode.ensures c.in-Packet.is) (ap (λ (k : ℕ). take k (drop header_size s)) size, refl)
 
 pub returns-in-RxFailure : goal.returns-in-RxFailure
 returns-in-RxFailure c =
-    rw (matched decoded_answer c.decode.ensures c.enum_told.given.1) (empty_part l.before.before.before.before.args.input no_part refl)
+    rw (matched decoded_answer c.decode.ensures c.in-RxFailure.is) (empty_part c.args.input no_part refl)

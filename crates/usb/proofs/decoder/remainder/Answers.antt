@@ -11,20 +11,20 @@ use Rattle.usb.proofs.decoder.remainder.Goals as goal
 
 pub overflow_add-end : goal.overflow_add-end
 overflow_add-end c =
-    omega (arith, gave_inside _ _ _ c.decode.ensures c.n-1.given.1)
+    omega (arith, gave_inside _ _ _ c.decode.ensures c.in-Packet.is)
 
 pub slice_bounds-result-count : goal.slice_bounds-result-count
 slice_bounds-result-count c =
-    omega (arith, gave_inside _ _ _ c.decode.ensures c.n-1.given.1)
+    omega (arith, gave_inside _ _ _ c.decode.ensures c.in-Packet.is)
 
 pub slice_bounds-result-start : goal.slice_bounds-result-start
 slice_bounds-result-start c =
-    omega (arith, gave_inside _ _ _ c.decode.ensures c.n-1.given.1)
+    omega (arith, gave_inside _ _ _ c.decode.ensures c.in-Packet.is)
 
 pub returns-in-Packet : goal.returns-in-Packet
 returns-in-Packet c =
-    rw (matched decoded_answer c.decode.ensures c.n-1.given.1) (refl, refl)
+    rw (matched decoded_answer c.decode.ensures c.in-Packet.is) (refl, refl)
 
 pub returns-in-RxFailure : goal.returns-in-RxFailure
 returns-in-RxFailure c =
-    rw (matched decoded_answer c.decode.ensures c.enum_told.given.1) (empty_part l.before.before.before.before.args.input no_part refl)
+    rw (matched decoded_answer c.decode.ensures c.in-RxFailure.is) (empty_part c.args.input no_part refl)

@@ -18,14 +18,18 @@ four-stores d size e =
 
 pub returns-then-out-ne-HDR_LEN : goal.returns-then-out-ne-HDR_LEN
 unfolding header_answer header_output
-returns-then-out-ne-HDR_LEN c = simp (ne_eqb _ _ c.if-out-ne-HDR_LEN.true) (refl, refl)
+returns-then-out-ne-HDR_LEN c = record { result_value = simp (ne_eqb _ _ c.if-out-ne-HDR_LEN.true); out_after = refl }
 
 pub returns-then-size-gt-MCTP_USB_MTU_MAX : goal.returns-then-size-gt-MCTP_USB_MTU_MAX
 unfolding header_answer header_output
-returns-then-size-gt-MCTP_USB_MTU_MAX c = simp (eq-eqb _ _ c.if-out-ne-HDR_LEN.false, lt-leb _ _ c.if-size-gt-MCTP_USB_MTU_MAX.true) (refl, refl)
+returns-then-size-gt-MCTP_USB_MTU_MAX c = record {
+  result_value = simp (eq-eqb _ _ c.if-out-ne-HDR_LEN.false, lt-leb _ _ c.if-size-gt-MCTP_USB_MTU_MAX.true);
+  out_after = refl;
+}
 
 pub returns : goal.returns
 unfolding header_answer header_output
-returns c =
-    let a = c.args in
-    simp (eq-eqb _ _ c.if-out-ne-HDR_LEN.false, le-leb _ _ c.if-size-gt-MCTP_USB_MTU_MAX.false) (refl, four-stores a.out.now a.size c.if-out-ne-HDR_LEN.false)
+returns c = record {
+  result_value = simp (eq-eqb _ _ c.if-out-ne-HDR_LEN.false, le-leb _ _ c.if-size-gt-MCTP_USB_MTU_MAX.false);
+  out_after = four-stores c.args.out.now c.args.size c.if-out-ne-HDR_LEN.false;
+}
