@@ -1,6 +1,5 @@
 pub mod Answers
 pub mod Computed
-pub mod Held
 pub mod Limit
 pub mod Offered
 pub mod OneResult

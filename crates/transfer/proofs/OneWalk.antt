@@ -1,7 +1,7 @@
--- Each public function of the walker allows one result, by its contract as the source states it. Of a method the checker makes no `Reads.Post`, as it does
--- not cover it; there the contract is read off its clauses. Assumes nothing.
+-- Each public function of the walker allows one result, by its contract as the source states it (`Reads.Post`); of the two methods the contract is read off
+-- their clauses too. Assumes nothing.
 use Prim.Native.Nat.{ℕ}
-use mathlib.Core.Path.{◌∙◌, sym}
+use mathlib.Core.Path.{◌∙◌, ap₂, sym}
 use mathlib.Core.List.{List}
 use seplogic.Ra.Ura.{Ura}
 use base.Logic.{SProp, ent, id⊢}
@@ -14,6 +14,7 @@ use denote.Ref.{Bor}
 use denote.Triple.Clauses.{AtExit}
 use Rattle.checks.specs.OneResult.{OneReading, OneResult}
 use Rattle.checks.proofs.Part.{same_part}
+use Rattle.transfer.specs.declared.walker.Walked.{Walked}
 use Rattle.transfer.specs.declared.walker.Walker.{Walker}
 use Rattle.transfer.specs.declared.walker.Yielded.{Yielded}
 use Rattle.transfer.specs.Walk.{OneStart, OneYield, Starts, Yields, found_part}
@@ -26,8 +27,12 @@ use Rattle.transfer.proofs.walker.part_at.Kinds as part_at
 use Rattle.transfer.proofs.walker.part_at.Reads as part-at-reads
 use Rattle.transfer.proofs.walker.place_after.Kinds as place_after
 use Rattle.transfer.proofs.walker.place_after.Reads as place-after-reads
+use Rattle.transfer.proofs.walker.Walker.new.Kinds as new-kinds
+use Rattle.transfer.proofs.walker.Walker.new.Reads as new-reads
+use Rattle.transfer.proofs.walker.Walker.next.Kinds as next-kinds
+use Rattle.transfer.proofs.walker.Walker.next.Reads as next-reads
 
--- ---- the covered functions
+-- ---- the functions on a slice and a place
 
 pub walk_at_one : OneResult 1 walk_at.ps walk_at.r walk-at-reads.Post
 walk_at_one κs a x y e f p q = same_walked x y (p ∙ sym q)
@@ -58,3 +63,15 @@ one_yield w x y p q = (
   same_part x.packet y.packet w.transfer (found_part w.transfer.now w.place) p.1 q.1,
   p.2 ∙ sym q.2,
 )
+
+-- the walker that `new` hands back
+pub new_one : OneResult 1 new-kinds.ps new-kinds.r new-reads.Post
+new_one κs a x y e f p q = one_start a.0 x y p q
+
+-- what `next` hands back: the answer, the packet's bytes and where they lie, and the walker
+pub next_one : OneReading 1 next-kinds.ps next-kinds.r {A = Walked × ((List ℕ × (ℕ × ℕ)) × Walker)}
+    (λ κs r. (r.answer, ((r.packet.now, r.packet.ref_ptr), r.walker))) next-reads.Post
+next_one κs a x y e f p q =
+    let all = one_yield a.0 x y p q in
+    ap₂ {C = Walked × ((List ℕ × (ℕ × ℕ)) × Walker)} (λ (answer : Walked) (behind : (List ℕ × (ℕ × ℕ)) × Walker). (answer, behind)) all.0
+    (ap₂ {C = (List ℕ × (ℕ × ℕ)) × Walker} (λ (part : List ℕ × (ℕ × ℕ)) (walker : Walker). (part, walker)) all.1 all.2)

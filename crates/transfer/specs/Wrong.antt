@@ -22,7 +22,7 @@ NotUnmoved = place_after two 0 ≢ 0
 
 -- a transfer's address without its bytes
 abbrev emptied : Bor (List ℕ) → Bor (List ℕ)
-emptied transfer = record { ref_ptr = transfer.ptr; ghost_name = transfer.name; now = [] }
+emptied transfer = record { ref_ptr = transfer.ref_ptr; now = [] }
 
 -- a new walker that holds no bytes, of any transfer that has one
 abbrev pub NotEmptied : Type 0

@@ -7,7 +7,6 @@ use mathlib.Core.List.{List, []}
 use native.Mathlib.Omega.{arith}
 use lib.Dec.{eqb, leb}
 use lib.ListN.{drop, length, length-drop, take}
-use borrow.Author.Rules.{rules}
 use borrow.Author.Tests.{le-leb, leb-true, lt-leb}
 use borrow.Author.Rules.{part_to_end}
 use borrow.Rule.Slice.PartMut.{put_mid}
@@ -19,8 +18,7 @@ use Rattle.usb.specs.Header.{framed, header_size, packet_most, sendable}
 use Rattle.usb.specs.Numbers.{bad_packet, no_room}
 use Rattle.transfer.specs.Builder.{append_answer, append_output, fits, limit, used_after}
 use Rattle.transfer.proofs.Limit.{limit_room}
-use Rattle.transfer.proofs.builder.append.Statement.{statement}
-use Rattle.transfer.proofs.builder.append.Tie as tie
+use Rattle.transfer.proofs.builder.append.Goals as goal
 
 -- the two tests below a limit are one
 below : (used size most : ℕ) → used + size ≤ most → (leb used most && leb size (most - used)) ≡ true
@@ -58,9 +56,9 @@ unfolding append_answer
 by_tests size used room s f h k =
     ap₂ (λ (x y : Bool). cond (not x) (answer bad_packet []) (cond (not y) (answer no_room []) (answer done []))) (sym h) (sym k)
 
-no_room : (packet out : List ℕ) (used : ℕ) → length packet ≤ packet_most → limit (length out) < used + (length packet + header_size)
+without_room : (packet out : List ℕ) (used : ℕ) → length packet ≤ packet_most → limit (length out) < used + (length packet + header_size)
     → Leaves packet out used (answer no_room []) used out
-no_room packet out used small full =
+without_room packet out used small full =
     by_answer packet out used (answer no_room [])
     (by_tests (length packet) used (length out) true false (le-leb (length packet) packet_most small)
     (not-below used (length packet + header_size) (limit (length out)) full))
@@ -75,75 +73,45 @@ with-room packet out used back small room written =
     let all = by_answer packet out used (answer done []) e in
     (all.0, (all.1.0, put_lent used (framed packet) out back (omega (arith, limit_room (length out))) written ∙ all.1.1))
 
-returns : tie.Need-returns
-returns c =
-    let a = c.before.before.before.args in
+pub returns-then-size-gt-MCTP_USB_MTU_MAX : goal.returns-then-size-gt-MCTP_USB_MTU_MAX
+returns-then-size-gt-MCTP_USB_MTU_MAX c =
+    let a = c.args in
+    let all =
     by_answer a.packet.now a.out.now a.used (answer bad_packet [])
-    (by_tests (length a.packet.now) a.used (length a.out.now) false _ (lt-leb _ _ c.if1.true) refl)
+    (by_tests (length a.packet.now) a.used (length a.out.now) false _ (lt-leb _ _ c.if-size-gt-MCTP_USB_MTU_MAX.true) refl)
+    in
+    record { answer_value = all.0; used_value = all.1.0; out_after = all.1.1 }
 
-add-whole : tie.Need-overflow-add-whole
-add-whole c = search rules
+pub returns-then-used-most : goal.returns-then-used-most
+returns-then-used-most c =
+    let all = without_room c.args.packet.now c.args.out.now c.args.used (omega arith) (omega (arith, c.limit_of-most.ensures)) in
+    record { answer_value = all.0; used_value = all.1.0; out_after = all.1.1 }
 
-limit-of-requires : tie.Need-limit-of-requires
-limit-of-requires c κs = search rules
-
-returns-2 : tie.Need-returns-2
-returns-2 c =
-    let l = c.before in
-    no_room _ l.before.before.before.before.args.out.now _ (omega arith) (omega (arith, l.limit-of.ensures))
-
-returns-3 : tie.Need-returns-3
-returns-3 c =
-    let l = c.before.before in
-    no_room _ l.before.before.before.before.args.out.now _ (omega arith) (omega (arith, l.limit-of.ensures))
+pub returns-then-most-used : goal.returns-then-most-used
+returns-then-most-used c =
+    let all = without_room c.args.packet.now c.args.out.now c.args.used (omega arith) (omega (arith, c.limit_of-most.ensures)) in
+    record { answer_value = all.0; used_value = all.1.0; out_after = all.1.1 }
 
 -- the used bytes end within the output
-sub-put : tie.Need-overflow-sub-put
-sub-put c =
-    let l = c.before.before in
-    omega (arith, l.limit-of.ensures, limit_room (length l.before.before.before.before.args.out.now))
+pub slice_bounds-put-count : goal.slice_bounds-put-count
+slice_bounds-put-count c =
+    omega (arith, c.limit_of-most.ensures, limit_room (length c.args.out.now))
 
-part-put-start : tie.Need-slice-bounds-put-start
-part-put-start c = sub-put c
+pub slice_bounds-put-start : goal.slice_bounds-put-start
+slice_bounds-put-start c = slice_bounds-put-count c
 
-part-put-end : tie.Need-slice-bounds-put-end
-part-put-end c = search rules
-
-put-requires : tie.Need-put-requires
-put-requires c κs =
-    let l = c.before.before.before in
-    let out = l.before.before.before.before.args.out.now in
-    let used = l.before.before.before.before.args.used in (
+pub put-requires : goal.put-requires
+put-requires c =
+    let out = c.args.out.now in
+    let used = c.args.used in (
       omega arith,
-      omega (arith, l.limit-of.ensures, limit_room (length out), ap length (part_to_end out used), length-drop used out),
+      omega (arith, c.limit_of-most.ensures, limit_room (length out), ap length (part_to_end out used), length-drop used out),
     )
 
-add-t9 : tie.Need-overflow-add-t9
-add-t9 c = search rules
-
-same_length : tie.Need-same-length
-same_length c = search rules
-
-returns-4 : tie.Need-returns-4
-returns-4 c =
-    let p = c.before.before in
-    let l = p.before.before.before.before in
-    let a = l.before.before.before.before.args in
-    with-room a.packet.now a.out.now a.used p.put.new.1.0 (omega arith) (omega (arith, l.limit-of.ensures)) p.put.ensures
-
-pub append-spec : {M : Type 1} → statement M
-append-spec =
-    tie.close
-    (tie.spec
-    returns
-    add-whole
-    limit-of-requires
-    returns-2
-    returns-3
-    sub-put
-    part-put-start
-    part-put-end
-    put-requires
-    add-t9
-    same_length
-    returns-4)
+pub returns : goal.returns
+returns c =
+    let all =
+    with-room c.args.packet.now c.args.out.now c.args.used c.put.new.part (omega arith) (omega (arith, c.limit_of-most.ensures))
+    c.put.ensures
+    in
+    record { answer_value = all.0; used_value = all.1.0; out_after = all.1.1 }
