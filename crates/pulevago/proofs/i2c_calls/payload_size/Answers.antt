@@ -3,8 +3,7 @@ use Prim.Native.Nat.{ℕ, ◌-◌, ◌≤◌}
 use mathlib.Core.Path.{◌≡◌, ap, subst, sym}
 use mathlib.Core.Bool.{Bool, true, false, cond}
 use native.Mathlib.Omega.{arith}
-use Rattle.pulevago.proofs.i2c_calls.payload_size.Statement.{statement}
-use Rattle.pulevago.proofs.i2c_calls.payload_size.Tie as tie
+use Rattle.pulevago.proofs.i2c_calls.payload_size.Goals as goal
 
 -- what the test tells, of the least length and of what is left
 enough : (t : Bool) (pec : Bool) (len : ℕ) → pec ≡ t → cond pec 5 4 ≤ len → cond t 5 4 ≤ len
@@ -13,17 +12,14 @@ enough t pec len e h = subst (λ (q : Bool). cond q 5 4 ≤ len) e h
 left-of : (pec : Bool) (len : ℕ) (t : Bool) → pec ≡ t → cond pec (len - 5) (len - 4) ≡ cond t (len - 5) (len - 4)
 left-of pec len t e = ap (λ (q : Bool). cond q (len - 5) (len - 4)) e
 
-sub-result : tie.Need-overflow-sub-result
-sub-result c = omega (arith, enough true _ _ c.if1.true c.before.requires)
+pub overflow_sub-result : goal.overflow_sub-result
+overflow_sub-result c = omega (arith, enough true _ _ c.if-pec.true c.requires)
 
-sub-result-2 : tie.Need-overflow-sub-result-2
-sub-result-2 c = omega (arith, enough false _ _ c.if1.false c.before.requires)
+pub overflow_sub-result-else-pec : goal.overflow_sub-result-else-pec
+overflow_sub-result-else-pec c = omega (arith, enough false _ _ c.if-pec.false c.requires)
 
-returns : tie.Need-returns
-returns c = sym (left-of _ _ true c.if1.true)
+pub returns-then-pec : goal.returns-then-pec
+returns-then-pec c = sym (left-of _ _ true c.if-pec.true)
 
-returns-2 : tie.Need-returns-2
-returns-2 c = sym (left-of _ _ false c.if1.false)
-
-pub payload-size-spec : {M : Type 1} → statement M
-payload-size-spec = tie.close (tie.spec sub-result sub-result-2 returns returns-2)
+pub returns-else-pec : goal.returns-else-pec
+returns-else-pec c = sym (left-of _ _ false c.if-pec.false)
