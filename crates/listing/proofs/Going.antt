@@ -54,7 +54,7 @@ module _ {input out₀ : List ℕ} {s₀ : Receiver} {out : List ℕ} {s : Recei
   lent = part_to_end input place
 
   pub rest_fits : used + length (lines_of (heard s (take (length input - place) (drop place input)))) ≤ length out
-  rest_fits = omega (arith, ap (λ (xs : List ℕ). length (lines_of (heard s xs))) lent, g.decreases, g.sized, g.room)
+  rest_fits = omega (arith, ap (λ (xs : List ℕ). length (lines_of (heard s xs))) lent, g.measured, g.sized, g.room)
 
   -- a call
   module _ {turn : Turn} {left : List ℕ} (said : Said s (take (length input - place) (drop place input)) used out turn left) where
@@ -63,7 +63,7 @@ module _ {input out₀ : List ℕ} {s₀ : Receiver} {out : List ℕ} {s : Recei
 
     -- what the turn has
     made : {A : Type 0} (part : Turn → A) → part turn ≡ part (next_turn s (drop place input) used)
-    made part = ap part of_rest.0
+    made part = ap part of_rest.value
 
     taken_made : turn.taken ≡ (next_taken s (drop place input)).taken
     taken_made = made (λ (t : Turn). t.taken)
@@ -121,14 +121,14 @@ module _ {input out₀ : List ℕ} {s₀ : Receiver} {out : List ℕ} {s : Recei
               ap₂ (λ (u : Receiver) (xs : List ℕ). run_of u xs) (state_made) (sym behind)
               ∙ sym (next_run s (drop place input) g.fits) ∙ g.run;
           sized =
-              ap length of_rest.1
-              ∙ length_put used (lines_of first) out (omega (arith, text, ap length lines_go_on, g.decreases, g.sized, g.room))
+              ap length of_rest.out_after
+              ∙ length_put used (lines_of first) out (omega (arith, text, ap length lines_go_on, g.measured, g.sized, g.room))
               ∙ g.sized;
           counted = omega (arith, g.counted, packets_made, ap length goes_on, length-append first later);
-          measured = omega (arith, g.decreases, used_made, ap length lines_go_on, text);
+          measured = omega (arith, g.measured, used_made, ap length lines_go_on, text);
           text =
-              ap₂ (λ (n : ℕ) (xs : List ℕ). put_at n (lines_of later) xs) (used_made) of_rest.1
-              ∙ put_put used (lines_of first) (lines_of later) out (omega (arith, text, ap length lines_go_on, g.decreases, g.sized, g.room))
+              ap₂ (λ (n : ℕ) (xs : List ℕ). put_at n (lines_of later) xs) (used_made) of_rest.out_after
+              ∙ put_put used (lines_of first) (lines_of later) out (omega (arith, text, ap length lines_go_on, g.measured, g.sized, g.room))
               ∙ ap (λ (xs : List ℕ). put_at used xs out) (sym lines_go_on)
               ∙ g.text;
         }
@@ -147,8 +147,8 @@ unfolding run_by lines_of
 ended {input} {out₀} {s₀} {out} {s} {place} {used} g h =
     let none = none_heard input s place h in
     let no_text : lines_of (heard s (drop place input)) ≡ [] = ap lines_of none in (
-      omega (arith, g.decreases, ap length no_text),
+      omega (arith, g.measured, ap length no_text),
       omega (arith, g.counted, ap length none),
       sym (ap (run_of s) (drop_of_length-le input {i = place} h)) ∙ g.run,
-      sym (ap (λ (xs : List ℕ). put_at used xs out) no_text ∙ put_none used out (omega (arith, g.decreases, ap length no_text, g.sized, g.room))) ∙ g.text,
+      sym (ap (λ (xs : List ℕ). put_at used xs out) no_text ∙ put_none used out (omega (arith, g.measured, ap length no_text, g.sized, g.room))) ∙ g.text,
     )

@@ -19,10 +19,13 @@ use Rattle.listing.specs.Text.{lines_of}
 -- the answer, the packets, the state and the output
 abbrev pub Says : List ℕ → Receiver → List ℕ → Lines → ℕ → Receiver → List ℕ → Type 0
 Says input s out said packets state left =
-    (lines_answer said ≡ list_answer input (length out) s)
-    × (Within said left
-    × ((packets ≡ length (listed input (length out) s))
-    × ((state ≡ state_after input (length out) s) × (left ≡ at_start (lines_of (listed input (length out) s)) out))))
+    record {
+      answer_value : lines_answer said ≡ list_answer input (length out) s;
+      within : Within said left;
+      packets_value : packets ≡ length (listed input (length out) s);
+      state_value : state ≡ state_after input (length out) s;
+      out_after : left ≡ at_start (lines_of (listed input (length out) s)) out;
+    }
 
 module _ (input : List ℕ) (s : Receiver) (out : List ℕ) where
   pub listed_said : (said : Lines) (packets : ℕ) (state : Receiver) (left : List ℕ)
@@ -30,15 +33,21 @@ module _ (input : List ℕ) (s : Receiver) (out : List ℕ) where
       → lines_answer said ≡ answer done (length (lines_of (heard s input)) ∷ []) → Within said left → packets ≡ length (heard s input) → state ≡ run_of s input
       → left ≡ at_start (lines_of (heard s input)) out → Says input s out said packets state left
   unfolding list_answer listed state_after
-  listed_said said packets state left c r ea ew ep es el = (simp (c, r) ea, (ew, (simp (c, r) ep, (simp (c, r) es, simp (c, r) el))))
+  listed_said said packets state left c r ea ew ep es el = record {
+    answer_value = simp (c, r) ea;
+    within = ew;
+    packets_value = simp (c, r) ep;
+    state_value = simp (c, r) es;
+    out_after = simp (c, r) el;
+  }
 
   pub short_said : consistent_of s ≡ true → roomy (length input) (length out) ≡ false → Says input s out ShortOutput 0 s out
   unfolding list_answer listed state_after lines_of
-  short_said c r = (simp (c, r), (tt, (simp (c, r), (simp (c, r), simp (c, r)))))
+  short_said c r = record { answer_value = simp (c, r); within = tt; packets_value = simp (c, r); state_value = simp (c, r); out_after = simp (c, r) }
 
   pub inconsistent_said : (state : Receiver) → consistent_of s ≡ false → state ≡ fresh_of → Says input s out Inconsistent 0 state out
   unfolding list_answer listed state_after lines_of
-  inconsistent_said state c e = (simp c, (tt, (simp c, (simp c e, simp c))))
+  inconsistent_said state c e = record { answer_value = simp c; within = tt; packets_value = simp c; state_value = simp c e; out_after = simp c }
 
 -- and what a caller that was answered done knows: all of the input was fed, and all of its packets are listed
 pub done_all : (input : List ℕ) (room : ℕ) (s : Receiver) (n : ℕ) → lines_answer (Done n) ≡ list_answer input room s

@@ -7,6 +7,7 @@ use mathlib.Core.List.{List, [], ◌∷◌, ◌++◌}
 use lib.ListN.{length, length-append}
 use Rattle.serial.specs.declared.receiver.Receiver.{Receiver}
 use Rattle.line.specs.Demand3.{flags, placed}
+use Rattle.framing.specs.Frame.{frame}
 use Rattle.serial.specs.Receiver.{consistent_of, fresh_of}
 use Rattle.serial.specs.Run.{heard, outs_by, outs_of, packets_of, run_of}
 use Rattle.line.proofs.Demand3.{demand_3_whole}
@@ -56,7 +57,7 @@ reads_write_all room ps h r =
 placed_packets : (i : ℕ) (ps : List (List ℕ)) → packets_of (placed i ps) ≡ ps
 unfolding placed packets_of
 placed_packets i [] = refl
-placed_packets i (p ∷ ps) = ap (λ (rest : List (List ℕ)). p ∷ rest) (placed_packets _ ps)
+placed_packets i (p ∷ ps) = ap (λ (rest : List (List ℕ)). p ∷ rest) (placed_packets (i + length (frame p)) ps)
 
 pub three_flags_listed : ThreeFlagsListed
 three_flags_listed h bytes ps sendable =

@@ -26,7 +26,8 @@ use Rattle.listing.proofs.TurnLaws.{next-heard, next_packet}
 
 -- what is promised of a call: the turn that it makes, and the output
 abbrev pub Said : Receiver → List ℕ → ℕ → List ℕ → Turn → List ℕ → Type 0
-Said s input used out turn left = (turn ≡ next_turn s input used) × (left ≡ put_at used (lines_of (next_heard s input)) out)
+Said s input used out turn left =
+    record { value : turn ≡ next_turn s input used; out_after : left ≡ put_at used (lines_of (next_heard s input)) out }
 
 -- what is known behind a call of the taker with a packet's room: `before` and `after` are what the room held
 pub record Called (s : Receiver) (input before after : List ℕ) (t : Taken) : Type 0 where
@@ -97,7 +98,7 @@ module _ {s : Receiver} {input before after : List ℕ} {t : Taken} (d : Called 
   pub turn_said : (used : ℕ) (out : List ℕ) (line : Added) (left : List ℕ) → line ≡ added used (copied_out t.reason after)
       → left ≡ put_at used (lines_of (copied_out t.reason after)) out
       → Said s input used out (record { taken = t.taken; used = line.used; packets = line.packets; state = t.state }) left
-  turn_said used out line left el eo = (
-    ap₂ (λ (x : Taken) (l : Added). record { taken = x.taken; used = l.used; packets = l.packets; state = x.state }) same (el ∙ ap (added used) copied_heard),
-    eo ∙ ap (λ (ps : List (List ℕ)). put_at used (lines_of ps) out) copied_heard,
-  )
+  turn_said used out line left el eo = record {
+    value = ap₂ (λ (x : Taken) (l : Added). record { taken = x.taken; used = l.used; packets = l.packets; state = x.state }) same (el ∙ ap (added used) copied_heard);
+    out_after = eo ∙ ap (λ (ps : List (List ℕ)). put_at used (lines_of ps) out) copied_heard;
+  }

@@ -4,12 +4,10 @@ use mathlib.Core.Path.{◌≡◌}
 use mathlib.Core.List.{List, ◌++◌}
 use native.Mathlib.Omega.{arith}
 use lib.ListN.{length, length-append}
-use borrow.Author.Rules.{rules}
 use Rattle.text.specs.Decimal.{decimal}
 use Rattle.text.specs.Put.{put_end, put_text}
 use Rattle.text.proofs.PutLaws.{Behind, length_behind, put_behind, then_behind}
-use Rattle.listing.proofs.ending.put_count.Statement.{statement}
-use Rattle.listing.proofs.ending.put_count.Tie as tie
+use Rattle.listing.proofs.ending.put_count.Goals as goal
 
 two-puts : (place : ℕ) (xs ys out : List ℕ) (middle next : ℕ) (before after : List ℕ) → place + length (xs ++ ys) ≤ length out
     → middle ≡ put_end place xs (length out) → before ≡ put_text place xs out
@@ -20,22 +18,11 @@ two-puts place xs ys out middle next before after room em eb en ea =
     let sized = length_behind place xs out before (omega arith) first in
     then_behind place xs ys out middle next before after (omega arith) first (put_behind middle ys before next after (omega (arith, first.0)) en ea)
 
-put-requires : tie.Need-put-requires
-put-requires c κs = search rules
-
-put-decimal-requires : tie.Need-put-decimal-requires
-put-decimal-requires c κs = search rules
-
-same_length : tie.Need-same-length
-same_length c = search rules
-
-returns : tie.Need-returns
+pub returns : goal.returns
 returns c =
-    let n = c.before.before in
-    let w = n.before.before.before.before in
-    let a = w.before.before.before.before.args in
-    two-puts a.place a.word.now (decimal a.n) a.out.now _ _ _ _ (omega arith) w.put.ensures.0 w.put.ensures.1.0
-    n.put-decimal.ensures.0 n.put-decimal.ensures.1.0
-
-pub put-count-spec : {M : Type 1} → statement M
-put-count-spec = tie.close (tie.spec put-requires put-decimal-requires same_length returns)
+    let a = c.args in
+    let both =
+    two-puts a.place a.word.now (decimal a.n) a.out.now _ _ _ _ (omega arith) c.put-number_at.ensures.value c.put-number_at.ensures.out_after
+    c.put_decimal.ensures.value c.put_decimal.ensures.out_after
+    in
+    record { value = both.0; out_after = both.1 }

@@ -6,8 +6,7 @@ use native.Mathlib.Omega.{arith}
 use lib.Dec.{leb}
 use borrow.Author.Tests.{le-leb, leb-false, leb-true, lt-leb}
 use Rattle.listing.specs.Listing.{room_for, roomy, stored_text}
-use Rattle.listing.proofs.lines.has_room.Statement.{statement}
-use Rattle.listing.proofs.lines.has_room.Tie as tie
+use Rattle.listing.proofs.lines.has_room.Goals as goal
 
 too-little : (size room : ℕ) → room < stored_text → false ≡ roomy size room
 too-little size room h = sym (lt-leb (room_for size) room (omega arith))
@@ -19,11 +18,8 @@ halved size room h = go (leb size ((room - stored_text) / 2)) refl
     go true e = sym (le-leb (room_for size) room (let k = leb-true size ((room - stored_text) / 2) e in omega arith))
     go false e = sym (lt-leb (room_for size) room (let k = leb-false size ((room - stored_text) / 2) e in omega arith))
 
-returns : tie.Need-returns
-returns c = too-little _ _ c.if1.true
+pub returns-then-room-lt-STORED_TEXT : goal.returns-then-room-lt-STORED_TEXT
+returns-then-room-lt-STORED_TEXT c = too-little _ _ c.if-room-lt-STORED_TEXT.true
 
-returns-2 : tie.Need-returns-2
-returns-2 c = halved _ _ c.if1.false
-
-pub has-room-spec : {M : Type 1} → statement M
-has-room-spec = tie.close (tie.spec returns returns-2)
+pub returns : goal.returns
+returns c = halved _ _ c.if-room-lt-STORED_TEXT.false

@@ -14,8 +14,7 @@ use Rattle.text.specs.Put.{put_end, put_text}
 use Rattle.text.proofs.DecimalLaws.{length_digits}
 use Rattle.text.proofs.PutLaws.{Behind, length_behind, put_behind, then_behind}
 use Rattle.listing.specs.Closing.{closing_line, end_bytes, packets_word}
-use Rattle.listing.proofs.ending.closing_line.Statement.{statement}
-use Rattle.listing.proofs.ending.closing_line.Tie as tie
+use Rattle.listing.proofs.ending.closing_line.Goals as goal
 
 -- the two parts of the line, each of a word and a number; the second has its room behind the first
 module _ (bytes packets : ℕ) (out : List ℕ) (room : 61 ≤ length out) where
@@ -52,44 +51,24 @@ module _ (bytes packets : ℕ) (out : List ℕ) (room : 61 ≤ length out) where
         in
         (all.0 ∙ zero-add _ ∙ ap length same, all.1 ∙ ap (λ (xs : List ℕ). at_start xs out) same)
 
-slice-aggregate-put-count : tie.Need-slice-aggregate-put-count
-slice-aggregate-put-count c = search rules
-
-put-count-requires : tie.Need-put-count-requires
-put-count-requires c κs =
-    let a = c.before.before.args in
+pub put_count-packets_at-requires : goal.put_count-packets_at-requires
+put_count-packets_at-requires c =
+    let a = c.args in
     front-room a.bytes a.packets a.out.now (search rules)
 
-slice-aggregate-put-count-2 : tie.Need-slice-aggregate-put-count-2
-slice-aggregate-put-count-2 c = search rules
+pub put_count-end-requires : goal.put_count-end-requires
+put_count-end-requires c =
+    let a = c.args in
+    let first = c.put_count-packets_at.ensures in
+    back-room a.bytes a.packets a.out.now (search rules) _ _ (first.value, first.out_after)
 
-put-count-requires-2 : tie.Need-put-count-requires-2
-put-count-requires-2 c κs =
-    let f = c.before.before in
-    let a = f.before.before.before.args in
-    back-room a.bytes a.packets a.out.now (search rules) _ _ f.put_count.ensures
-
-slice-aggregate-put : tie.Need-slice-aggregate-put
-slice-aggregate-put c = search rules
-
-put-requires : tie.Need-put-requires
-put-requires c κs = search rules
-
-returns : tie.Need-returns
+pub returns : goal.returns
 returns c =
-    let q = c.before.before.before in
-    let f = q.before.before.before in
-    let a = f.before.before.before.args in
-    (c.put.ensures.1.1, line-behind a.bytes a.packets a.out.now (search rules) _ _ f.put_count.ensures _ _ _ _ q.put-count2.ensures c.put.ensures.0 c.put.ensures.1.0)
-
-pub closing-line-spec : {M : Type 1} → statement M
-closing-line-spec =
-    tie.close
-    (tie.spec
-    slice-aggregate-put-count
-    put-count-requires
-    slice-aggregate-put-count-2
-    put-count-requires-2
-    slice-aggregate-put
-    put-requires
-    returns)
+    let a = c.args in
+    let first = c.put_count-packets_at.ensures in
+    let second = c.put_count-end.ensures in
+    let line =
+    line-behind a.bytes a.packets a.out.now (search rules) _ _ (first.value, first.out_after) _ _ _ _ (second.value, second.out_after)
+    c.put.ensures.value c.put.ensures.out_after
+    in
+    record { prefix_len = c.put.ensures.prefix_len; value = line.0; out_after = line.1 }
