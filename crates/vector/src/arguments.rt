@@ -63,7 +63,7 @@ pub(crate) fn read(line: &[u8], form: &[u8]) -> Arguments {
 
 // The first field of that kind; nothing where the form has none.
 fn field_of<'a>(line: &'a [u8], form: &[u8], kind: u8) -> &'a [u8] {
-    let k = bytes::scan::find(form, 0, form.len(), kind);
+    let k = fields::find(form, 0, kind);
     if k == form.len() {
         return &line[0..0];
     }

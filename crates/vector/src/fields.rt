@@ -1,4 +1,18 @@
 // The parts of a text.
+ghost use Rattle.std.specs.Prelude.{◌≤◌, length};
+
+// The first place from `from` on at which the byte stands; the text's length where it stands at none.
+pub fn find(text: &[u8], from: usize, byte: u8) -> usize
+    ensures within { result ≤ length text.now }
+    ensures onward { from ≤ length text.now → from ≤ result }
+{
+    for i in from..text.len() {
+        if text[i] == byte {
+            return i;
+        }
+    }
+    text.len()
+}
 
 // The first n bytes; all of them where there are fewer.
 pub(crate) fn start(text: &[u8], n: usize) -> &[u8] {
@@ -21,7 +35,7 @@ pub(crate) fn rest(text: &[u8], k: usize, between: u8) -> &[u8] {
     let mut start = 0;
     let mut left = k;
     while 0 < left {
-        let end = bytes::scan::find(text, start, text.len(), between);
+        let end = find(text, start, between);
         if end == text.len() {
             return &text[0..0];
         }
@@ -34,7 +48,7 @@ pub(crate) fn rest(text: &[u8], k: usize, between: u8) -> &[u8] {
 // The k-th part, counted from 0; nothing where there are fewer.
 pub(crate) fn part(text: &[u8], k: usize, between: u8) -> &[u8] {
     let from = rest(text, k, between);
-    start(from, bytes::scan::find(from, 0, from.len(), between))
+    start(from, find(from, 0, between))
 }
 
 // The k-th cell of a row of the table: rows are parted by '|', and their cells by ';'.

@@ -12,3 +12,4 @@ mod words;
 
 pub use calls::WAYS;
 pub use compare::{Replayed, replay};
+pub use fields::find;
