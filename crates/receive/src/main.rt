@@ -7,9 +7,10 @@ ghost use Rattle.std.specs.Prelude.{◌≡◌};
 ghost use Rattle.receive.specs.declared.Came.TheVariants.{Failure};
 ghost use Rattle.receive.specs.Follow.{ListedOn, stopped_as, total_of};
 
-use libc::{STDERR_FILENO, STDIN_FILENO, STDOUT_FILENO};
 use listing::Lines;
 use serial::{Receiver, STORED_SIZE};
+use std::io;
+use std::io::{Eprint, Input, Print, Read};
 
 // The bytes of one read, and the room that `list` asks for them: two of text for each, and for each that a receiver may have stored before.
 const READ: usize = 32768;
@@ -33,21 +34,26 @@ struct Line {
     packets: u64,
 }
 
-fn main() {
+fn main(rt: HostRuntime) {
     let mut input = [0u8; READ];
     let mut text = [0u8; TEXT];
-    let line = follow(&mut input, &mut text);
+    let line = follow(&rt, &mut input, &mut text);
     let came = line.came;
     match came {
-        Came::Bytes => complain(b"receive: more reads than it counts\n"),
-        Came::End => close(line.bytes, line.packets),
+        Came::Bytes => complain(&rt, "more reads than it counts"),
+        Came::End => close(&rt, line.bytes, line.packets),
         Came::Failure => {}
     }
 }
 
 // Reads until the input's end or a failure. A proved loop has to end, and nothing says that a line does: so it counts its turns down, from a number
 // that no run uses up.
-fn follow(input: &mut [u8], text: &mut [u8]) -> Line {
+fn follow<R: Input + Print + Eprint + AllocGlobal>(
+    rt: &R,
+    input: &mut [u8],
+    text: &mut [u8],
+) -> Line {
+    let mut reader = rt.reader();
     let receiver = Receiver::fresh();
     let mut line = Line {
         came: Came::Bytes,
@@ -57,7 +63,7 @@ fn follow(input: &mut [u8], text: &mut [u8]) -> Line {
     };
     let mut turns = u64::MAX;
     while turns > 0 && goes_on(line) {
-        line = read_on(line, input, text);
+        line = read_on(rt, &mut reader, line, input, text);
         turns -= 1;
     }
     line
@@ -74,17 +80,25 @@ fn goes_on(line: Line) -> bool {
 }
 
 // One read, and what it brought listed.
-fn read_on(line: Line, input: &mut [u8], text: &mut [u8]) -> Line {
-    let got = libc::read(STDIN_FILENO, input);
-    if got < 0 {
-        os::fail(b"receive: standard input");
-        return stopped(line, Came::Failure);
+fn read_on<R: Print + Eprint + AllocGlobal, I: Read>(
+    rt: &R,
+    reader: &mut I,
+    line: Line,
+    input: &mut [u8],
+    text: &mut [u8],
+) -> Line {
+    match reader.read(input) {
+        Ok(n) => {
+            if n == 0 {
+                return stopped(line, Came::End);
+            }
+            list_on(rt, line, &input[..n], text)
+        }
+        Err(error) => {
+            fail(rt, "standard input", &error);
+            stopped(line, Came::Failure)
+        }
     }
-    if got == 0 {
-        return stopped(line, Came::End);
-    }
-    let n = io::count(got, input);
-    list_on(line, &input[..n], text)
 }
 
 // The line as it is, with nothing more to read.
@@ -101,7 +115,12 @@ fn stopped(line: Line, came: Came) -> Line
 }
 
 // Lists the bytes that came, from the receiver that the last ones left, and writes the text.
-fn list_on(line: Line, input: &[u8], text: &mut [u8]) -> Line
+fn list_on<R: Print + Eprint + AllocGlobal>(
+    rt: &R,
+    line: Line,
+    input: &[u8],
+    text: &mut [u8],
+) -> Line
     ensures { ListedOn line input.now result }
 {
     let receiver = line.receiver;
@@ -109,9 +128,7 @@ fn list_on(line: Line, input: &[u8], text: &mut [u8]) -> Line
     let answer = listed.answer;
     match answer {
         Lines::Done(size) => {
-            let is_written = io::write_all(STDOUT_FILENO, &text[..size]);
-            if !is_written {
-                os::fail(b"receive: standard output");
+            if !is_put(rt, &text[..size]) {
                 return stopped(line, Came::Failure);
             }
             let receiver = listed.state;
@@ -123,8 +140,8 @@ fn list_on(line: Line, input: &[u8], text: &mut [u8]) -> Line
             }
         }
         // neither comes: the receiver began fresh, and the text has its room
-        Lines::ShortOutput => refused(line),
-        Lines::Inconsistent => refused(line),
+        Lines::ShortOutput => refused(rt, line),
+        Lines::Inconsistent => refused(rt, line),
     }
 }
 
@@ -140,23 +157,45 @@ fn total(count: u64, more: usize) -> u64
 }
 
 // What never comes, said and taken as a failure.
-fn refused(line: Line) -> Line
+fn refused<R: Eprint>(rt: &R, line: Line) -> Line
     ensures { result ≡ stopped_as Failure line }
 {
-    complain(b"receive: the listing was refused\n");
+    complain(rt, "the listing was refused");
     stopped(line, Came::Failure)
 }
 
 // The closing line.
-fn close(bytes: u64, packets: u64) {
+fn close<R: Print + Eprint + AllocGlobal>(rt: &R, bytes: u64, packets: u64) {
     let mut text = [0u8; 64];
     let size = listing::closing_line(bytes, packets, &mut text);
-    let is_written = io::write_all(STDOUT_FILENO, &text[..size]);
-    if !is_written {
-        os::fail(b"receive: standard output");
+    let _ = is_put(rt, &text[..size]);
+}
+
+// Writes the text, and answers whether it is written; if not, standard error hears of it.
+fn is_put<R: Print + Eprint + AllocGlobal>(rt: &R, text: &[u8]) -> bool {
+    match rt.write_all(text) {
+        Ok(()) => true,
+        Err(error) => {
+            fail(rt, "standard output", &error);
+            false
+        }
     }
 }
 
-fn complain(text: &[u8]) {
-    io::write_all(STDERR_FILENO, text);
+// Says what failed, with the system's reason. Where that can't be said either, nothing hears of it.
+fn fail<R: Eprint + AllocGlobal>(rt: &R, what: &str, error: &io::Error) {
+    let _ = say_why(rt, what, error);
+}
+
+// An error's text ends with its number, which is left out.
+fn say_why<R: Eprint + AllocGlobal>(rt: &R, what: &str, error: &io::Error) -> io::Result<()> {
+    let text = format!(in rt.alloc(); "{error}")?;
+    match text.as_str().split_once(" (os error ") {
+        Some((reason, _)) => eprintln!(rt; "receive: {what}: {reason}"),
+        None => eprintln!(rt; "receive: {what}: {text}"),
+    }
+}
+
+fn complain<R: Eprint>(rt: &R, text: &str) {
+    let _ = eprintln!(rt; "receive: {text}");
 }
