@@ -1,5 +1,7 @@
 // A stored list, vector after vector.
 use crate::report;
+use std::io;
+use std::io::Print;
 use vector::WAYS;
 
 // How many vectors there are so far, and how many of them disagree.
@@ -10,54 +12,60 @@ struct Seen {
 }
 
 // Replays each vector of the list, and says how many there are and how many disagree. They are counted from 1.
-pub(crate) fn replay(path: &[u8], list: &[u8]) {
+pub(crate) fn replay<R: Print>(rt: &R, path: &str, list: &[u8]) -> io::Result<()> {
     let mut seen = Seen {
         vectors: 0,
         disagree: 0,
     };
     let mut place = 0;
     while place < list.len() {
-        let end = bytes::scan::find(list, place, list.len(), b'\n');
-        seen = seen.with(path, &list[place..end]);
+        let end = vector::find(list, place, b'\n');
+        seen = seen.with(rt, path, &list[place..end])?;
         place = end + 1;
     }
-    report::summary(path, seen.vectors, seen.disagree);
+    report::summary(rt, path, seen.vectors, seen.disagree)
 }
 
 impl Seen {
     // And the line. An empty one, and one that begins with '#', is no vector.
-    fn with(self, path: &[u8], line: &[u8]) -> Seen {
+    fn with<R: Print>(self, rt: &R, path: &str, line: &[u8]) -> io::Result<Seen> {
         if line.len() == 0 {
-            return self;
+            return Ok(self);
         }
         if line[0] == b'#' {
-            return self;
+            return Ok(self);
         }
         let vectors = std::num::wrapping_add_u64(self.vectors, 1);
-        let disagrees = !agrees(path, vectors, line);
-        Seen {
+        let disagrees = !agrees(rt, path, vectors, line)?;
+        Ok(Seen {
             vectors,
             disagree: std::num::wrapping_add_u64(self.disagree, disagrees as u64),
-        }
+        })
     }
 }
 
 // Whether the vector agrees in each way to replay it; if not, that is said.
-fn agrees(path: &[u8], number: u64, line: &[u8]) -> bool {
+fn agrees<R: Print>(rt: &R, path: &str, number: u64, line: &[u8]) -> io::Result<bool> {
     let mut right = true;
     let mut way = 0;
     while way < WAYS {
-        right = right & agrees_in(way, path, number, line);
+        right = right & agrees_in(rt, way, path, number, line)?;
         way += 1;
     }
-    right
+    Ok(right)
 }
 
-fn agrees_in(way: usize, path: &[u8], number: u64, line: &[u8]) -> bool {
+fn agrees_in<R: Print>(
+    rt: &R,
+    way: usize,
+    path: &str,
+    number: u64,
+    line: &[u8],
+) -> io::Result<bool> {
     let replayed = vector::replay(line, way);
     if replayed.agrees {
-        return true;
+        return Ok(true);
     }
-    report::disagreement(path, number, replayed);
-    false
+    report::disagreement(rt, path, number, replayed)?;
+    Ok(false)
 }

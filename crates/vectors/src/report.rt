@@ -1,47 +1,40 @@
 // What the program writes: a line for each disagreement, and one for each list; on standard error, which list could not be replayed.
-use libc::{STDERR_FILENO, STDOUT_FILENO};
+use std::io;
+use std::io::{Eprint, Print};
 use vector::Replayed;
 
-// Says what the replay of a vector does.
-pub(crate) fn disagreement(path: &[u8], number: u64, replayed: Replayed) {
-    name(path, number);
+// Says what the replay of a vector does. A vector is named by its list and its number there, counted from 1.
+pub(crate) fn disagreement<R: Print>(
+    rt: &R,
+    path: &str,
+    number: u64,
+    replayed: Replayed,
+) -> io::Result<()> {
+    print!(rt; "{path}: vector {number}: ")?;
     let text = replayed.text;
-    put_first(&text, replayed.end);
-    put(b"\n");
-}
-
-// Names a vector by its list and its number there, counted from 1.
-fn name(path: &[u8], number: u64) {
-    put(path);
-    put(b": vector ");
-    io::print_decimal(STDOUT_FILENO, number);
-    put(b": ");
+    put_first(rt, &text, replayed.end)?;
+    rt.write_all(b"\n")
 }
 
 // Says how many vectors a list has, and how many of them disagree.
-pub(crate) fn summary(path: &[u8], vectors: u64, disagree: u64) {
-    put(path);
-    put(b": ");
-    io::print_decimal(STDOUT_FILENO, vectors);
-    put(b" vectors, ");
-    io::print_decimal(STDOUT_FILENO, disagree);
-    put(b" disagree\n");
+pub(crate) fn summary<R: Print>(rt: &R, path: &str, vectors: u64, disagree: u64) -> io::Result<()> {
+    println!(rt; "{path}: {vectors} vectors, {disagree} disagree")
 }
 
-// Names a list that can't be replayed, and says why.
-pub(crate) fn unfit(path: &[u8], why: &[u8]) {
-    io::write_all(STDERR_FILENO, path);
-    io::write_all(STDERR_FILENO, why);
+// Names a list that can't be replayed, and says why. Where that can't be said, nothing hears of it.
+pub(crate) fn unfit<R: Eprint>(rt: &R, path: &str, why: &str) {
+    let _ = eprintln!(rt; "{path}: {why}");
+}
+
+// The same of a list that can't be opened, with the system's reason.
+pub(crate) fn unopened<R: Eprint>(rt: &R, path: &str, error: &io::Error) {
+    let _ = eprintln!(rt; "{path}: {error}");
 }
 
 // The first n bytes, which are there.
-fn put_first(text: &[u8], n: usize) {
+fn put_first<R: Print>(rt: &R, text: &[u8], n: usize) -> io::Result<()> {
     if text.len() < n {
-        return;
+        return Ok(());
     }
-    put(&text[0..n]);
-}
-
-fn put(text: &[u8]) {
-    io::write_all(STDOUT_FILENO, text);
+    rt.write_all(&text[0..n])
 }
