@@ -5,10 +5,9 @@ use mathlib.Core.Path.{◌≡◌, ◌∙◌, ap, sym}
 use mathlib.Core.List.{List}
 use mathlib.Core.Logic.{inl}
 use lib.ListN.{length}
-use Rattle.listing.specs.declared.lines.Lines.{Lines}
 use Rattle.listing.specs.declared.lines.Lines.TheVariants.{Done}
 use Rattle.listing.specs.declared.lines.Listed.{Listed}
-use Rattle.listing.specs.Listing.{Within, lines_answer, list_answer, listed, state_after}
+use Rattle.listing.specs.Listing.{lines_answer, list_answer, listed, state_after}
 use Rattle.listing.proofs.ListSaid.{done_all}
 use Rattle.receive.specs.declared.Came.TheVariants.{Bytes}
 use Rattle.receive.specs.declared.Line.{Line}

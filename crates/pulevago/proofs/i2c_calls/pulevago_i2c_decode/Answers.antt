@@ -47,17 +47,17 @@ returns-then-number-eq-DONE c =
     let e = c.decode-answer.ensures in
     let t = c.number-number.ensures in
     let taken = sym (part_taken a.pec a.input.now _ (gave _ _ c.decode-answer.result _ c.value.result c.decode-answer.ensures c.number-number.ensures c.if-number-eq-DONE.true c.value.ensures)) in record {
-        value = number_given (decoded_answer c.decode-answer.result) _ _ t e;
-        source_after = value_given (decoded_answer c.decode-answer.result) _ _ t e _ _ is-done c.value.ensures;
-        place_after = ap (λ (p : Part). p.place) taken ∙ given_done _ _ _ is-done;
-        size_after = c.payload_size.ensures ∙ behind a.pec a.input.now ∙ ap (λ (p : Part). p.size) taken ∙ given_done _ _ _ is-done;
+      value = number_given (decoded_answer c.decode-answer.result) _ _ t e;
+      source_after = value_given (decoded_answer c.decode-answer.result) _ _ t e _ _ is-done c.value.ensures;
+      place_after = ap (λ (p : Part). p.place) taken ∙ given_done _ _ _ is-done;
+      size_after = c.payload_size.ensures ∙ behind a.pec a.input.now ∙ ap (λ (p : Part). p.size) taken ∙ given_done _ _ _ is-done;
     }
 
 pub returns : goal.returns
 returns c =
     let h = c.if-number-eq-DONE.false in record {
-        value = number_given (decoded_answer c.decode-answer.result) _ _ c.number-number.ensures c.decode-answer.ensures;
-        source_after = given_refused _ _ _ h;
-        place_after = given_refused _ _ _ h;
-        size_after = given_refused _ _ _ h;
+      value = number_given (decoded_answer c.decode-answer.result) _ _ c.number-number.ensures c.decode-answer.ensures;
+      source_after = given_refused _ _ _ h;
+      place_after = given_refused _ _ _ h;
+      size_after = given_refused _ _ _ h;
     }

@@ -11,9 +11,9 @@ returns-then-number-eq-DONE c =
     let r = c.encode-answer.result in
     let e = c.encode-answer.ensures in
     let t = c.number-number.ensures in record {
-        value = number_given (encoded_answer r) _ _ t e.result_value;
-        out_after = output_given (encoded_answer r) _ _ t e.result_value _ _ _ (e.out_after ∙ encoded_left r a.own a.dest a.pec a.payload.now a.out.now);
-        written_after = value_given (encoded_answer r) _ _ t e.result_value _ _ c.if-number-eq-DONE.true c.value.ensures;
+      value = number_given (encoded_answer r) _ _ t e.result_value;
+      out_after = output_given (encoded_answer r) _ _ t e.result_value _ _ _ (e.out_after ∙ encoded_left r a.own a.dest a.pec a.payload.now a.out.now);
+      written_after = value_given (encoded_answer r) _ _ t e.result_value _ _ c.if-number-eq-DONE.true c.value.ensures;
     }
 
 pub returns : goal.returns
@@ -22,7 +22,7 @@ returns c =
     let r = c.encode-answer.result in
     let e = c.encode-answer.ensures in
     let t = c.number-number.ensures in record {
-        value = number_given (encoded_answer r) _ _ t e.result_value;
-        out_after = output_given (encoded_answer r) _ _ t e.result_value _ _ _ (e.out_after ∙ encoded_left r a.own a.dest a.pec a.payload.now a.out.now);
-        written_after = given_refused _ _ _ c.if-number-eq-DONE.false;
+      value = number_given (encoded_answer r) _ _ t e.result_value;
+      out_after = output_given (encoded_answer r) _ _ t e.result_value _ _ _ (e.out_after ∙ encoded_left r a.own a.dest a.pec a.payload.now a.out.now);
+      written_after = given_refused _ _ _ c.if-number-eq-DONE.false;
     }

@@ -11,9 +11,9 @@ returns-then-number-eq-DONE c =
     let r = c.frame_to_serial-answer.result in
     let e = c.frame_to_serial-answer.ensures in
     let t = c.number-number.ensures in record {
-        value = number_given (written_answer r) _ _ t e.result_value;
-        out_after = output_given (written_answer r) _ _ t e.result_value _ _ _ (e.out_after ∙ frame_left r a.packet.now a.out.now);
-        written_after = value_given (written_answer r) _ _ t e.result_value _ _ c.if-number-eq-DONE.true c.value.ensures;
+      value = number_given (written_answer r) _ _ t e.result_value;
+      out_after = output_given (written_answer r) _ _ t e.result_value _ _ _ (e.out_after ∙ frame_left r a.packet.now a.out.now);
+      written_after = value_given (written_answer r) _ _ t e.result_value _ _ c.if-number-eq-DONE.true c.value.ensures;
     }
 
 pub returns : goal.returns
@@ -22,7 +22,7 @@ returns c =
     let r = c.frame_to_serial-answer.result in
     let e = c.frame_to_serial-answer.ensures in
     let t = c.number-number.ensures in record {
-        value = number_given (written_answer r) _ _ t e.result_value;
-        out_after = output_given (written_answer r) _ _ t e.result_value _ _ _ (e.out_after ∙ frame_left r a.packet.now a.out.now);
-        written_after = given_refused _ _ _ c.if-number-eq-DONE.false;
+      value = number_given (written_answer r) _ _ t e.result_value;
+      out_after = output_given (written_answer r) _ _ t e.result_value _ _ _ (e.out_after ∙ frame_left r a.packet.now a.out.now);
+      written_after = given_refused _ _ _ c.if-number-eq-DONE.false;
     }

@@ -7,6 +7,6 @@ pub returns : goal.returns
 returns c =
     let bytes = c.args.state.now in
     record {
-        value = c.done_where.ensures;
-        state_after = c.store.ensures ∙ ap (left bytes) c.fresh.ensures;
+      value = c.done_where.ensures;
+      state_after = c.store.ensures ∙ ap (left bytes) c.fresh.ensures;
     }

@@ -18,18 +18,18 @@ returns-then-number-eq-DONE c =
     let e = c.step-outcome.ensures in
     let is-done = c.if-number-eq-DONE.true in
     let value = c.value-handed.ensures ∙ ap value_of e.result_value in record {
-        value = number_given (outcome_answer r) _ _ c.number-number.ensures e.result_value;
-        state_after = e.bytes_after;
-        place_after = c.place_of.ensures ∙ ap (λ (size : ℕ). cond (eqb size 0) 0 packet_place) value ∙ handed_place a.byte bytes ∙ given_done _ _ _ is-done;
-        size_after = value ∙ handed_size (step_answer_in a.byte bytes).values ∙ given_done _ _ _ is-done;
+      value = number_given (outcome_answer r) _ _ c.number-number.ensures e.result_value;
+      state_after = e.bytes_after;
+      place_after = c.place_of.ensures ∙ ap (λ (size : ℕ). cond (eqb size 0) 0 packet_place) value ∙ handed_place a.byte bytes ∙ given_done _ _ _ is-done;
+      size_after = value ∙ handed_size (step_answer_in a.byte bytes).values ∙ given_done _ _ _ is-done;
     }
 
 pub returns : goal.returns
 returns c =
     let r = c.step-outcome.result in
     let e = c.step-outcome.ensures in record {
-        value = number_given (outcome_answer r) _ _ c.number-number.ensures e.result_value;
-        state_after = e.bytes_after;
-        place_after = given_refused _ _ _ c.if-number-eq-DONE.false;
-        size_after = given_refused _ _ _ c.if-number-eq-DONE.false;
+      value = number_given (outcome_answer r) _ _ c.number-number.ensures e.result_value;
+      state_after = e.bytes_after;
+      place_after = given_refused _ _ _ c.if-number-eq-DONE.false;
+      size_after = given_refused _ _ _ c.if-number-eq-DONE.false;
     }

@@ -7,7 +7,7 @@ pub returns : goal.returns
 returns c =
     let e = c.append-built.ensures in
     record {
-        value = number_given (appended_answer c.append-built.result.answer) _ _ c.number.ensures e.answer_value;
-        used_after = e.used_value;
-        out_after = e.out_after;
+      value = number_given (appended_answer c.append-built.result.answer) _ _ c.number.ensures e.answer_value;
+      used_after = e.used_value;
+      out_after = e.out_after;
     }

@@ -36,19 +36,19 @@ returns-then-number-eq-DONE c =
     let is-done = c.if-number-eq-DONE.true in
     let room = length c.args.input.now in
     let values = ap (λ (x : Answer). x.values) (sym (gave _ c.decode-answer.result _ c.value-length.result c.decode-answer.ensures c.number-number.ensures c.if-number-eq-DONE.true c.value-length.ensures)) in record {
-        value = number_given (decoded_answer c.decode-answer.result) _ _ c.number-number.ensures c.decode-answer.ensures;
-        place_after = ap (λ (v : List ℕ). (packet_at 0 v).place) values ∙ given_done _ _ _ is-done;
-        size_after = ap (λ (v : List ℕ). (packet_at 0 v).size) values ∙ given_done _ _ _ is-done;
-        rest_place_after = ap (λ (v : List ℕ). (rest_at room v).place) values ∙ given_done _ _ _ is-done;
-        rest_size_after = ap (λ (v : List ℕ). (rest_at room v).size) values ∙ given_done _ _ _ is-done;
+      value = number_given (decoded_answer c.decode-answer.result) _ _ c.number-number.ensures c.decode-answer.ensures;
+      place_after = ap (λ (v : List ℕ). (packet_at 0 v).place) values ∙ given_done _ _ _ is-done;
+      size_after = ap (λ (v : List ℕ). (packet_at 0 v).size) values ∙ given_done _ _ _ is-done;
+      rest_place_after = ap (λ (v : List ℕ). (rest_at room v).place) values ∙ given_done _ _ _ is-done;
+      rest_size_after = ap (λ (v : List ℕ). (rest_at room v).size) values ∙ given_done _ _ _ is-done;
     }
 
 pub returns : goal.returns
 returns c =
     let h = c.if-number-eq-DONE.false in record {
-        value = number_given (decoded_answer c.decode-answer.result) _ _ c.number-number.ensures c.decode-answer.ensures;
-        place_after = given_refused _ _ _ h;
-        size_after = given_refused _ _ _ h;
-        rest_place_after = given_refused _ _ _ h;
-        rest_size_after = given_refused _ _ _ h;
+      value = number_given (decoded_answer c.decode-answer.result) _ _ c.number-number.ensures c.decode-answer.ensures;
+      place_after = given_refused _ _ _ h;
+      size_after = given_refused _ _ _ h;
+      rest_place_after = given_refused _ _ _ h;
+      rest_size_after = given_refused _ _ _ h;
     }

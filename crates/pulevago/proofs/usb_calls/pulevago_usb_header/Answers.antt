@@ -11,6 +11,6 @@ returns c =
     let r = c.header-answer.result in
     let e = c.header-answer.ensures in
     let t = c.number.ensures in record {
-        value = number_given (headed_answer r) _ _ t e.result_value;
-        out_after = output_given (headed_answer r) _ _ t e.result_value _ _ _ (e.out_after ∙ header_left r a.size a.out.now);
+      value = number_given (headed_answer r) _ _ t e.result_value;
+      out_after = output_given (headed_answer r) _ _ t e.result_value _ _ _ (e.out_after ∙ header_left r a.size a.out.now);
     }

@@ -46,11 +46,11 @@ returns-then-packets-eq0 c =
     let at = a.at.now in
     let values = ap (λ (x : Answer). x.values) (sym (ended c.walk_at-answer.result _ _ _ _ c.walk_at-answer.ensures c.number-number.ensures c.if-number-eq-DONE.true c.found-packets.ensures c.if-packets-eq0.true)) in
     let is-done = c.if-number-eq-DONE.true in record {
-        value = number_given (walked_answer c.walk_at-answer.result) _ _ c.number-number.ensures c.walk_at-answer.ensures;
-        at_after = ap (place_behind at) values;
-        found_after = c.found-packets.ensures ∙ ap (λ (x : Answer). length x.values) c.walk_at-answer.ensures ∙ given_done _ _ _ is-done;
-        place_after = ap (λ (vs : List ℕ). (packet_at at vs).place) values ∙ given_done _ _ _ is-done;
-        size_after = c.value-length.ensures ∙ ap value_of c.walk_at-answer.ensures ∙ size-at at (walk_answer transfer at).values ∙ given_done _ _ _ is-done;
+      value = number_given (walked_answer c.walk_at-answer.result) _ _ c.number-number.ensures c.walk_at-answer.ensures;
+      at_after = ap (place_behind at) values;
+      found_after = c.found-packets.ensures ∙ ap (λ (x : Answer). length x.values) c.walk_at-answer.ensures ∙ given_done _ _ _ is-done;
+      place_after = ap (λ (vs : List ℕ). (packet_at at vs).place) values ∙ given_done _ _ _ is-done;
+      size_after = c.value-length.ensures ∙ ap value_of c.walk_at-answer.ensures ∙ size-at at (walk_answer transfer at).values ∙ given_done _ _ _ is-done;
     }
 
 pub overflow_add-place : goal.overflow_add-place
@@ -67,19 +67,19 @@ returns-then-number-eq-DONE c =
     let at = c.args.at.now in
     let values = ap (λ (x : Answer). x.values) (sym (met c.walk_at-answer.result _ _ _ _ c.value-length.result c.walk_at-answer.ensures c.number-number.ensures c.if-number-eq-DONE.true c.found-packets.ensures c.if-packets-eq0.false c.value-length.ensures)) in
     let is-done = c.if-number-eq-DONE.true in record {
-        value = number_given (walked_answer c.walk_at-answer.result) _ _ c.number-number.ensures c.walk_at-answer.ensures;
-        at_after = ap (place_behind at) values;
-        found_after = c.found-packets.ensures ∙ ap (λ (x : Answer). length x.values) c.walk_at-answer.ensures ∙ given_done _ _ _ is-done;
-        place_after = ap (λ (vs : List ℕ). (packet_at at vs).place) values ∙ given_done _ _ _ is-done;
-        size_after = ap (λ (vs : List ℕ). (packet_at at vs).size) values ∙ given_done _ _ _ is-done;
+      value = number_given (walked_answer c.walk_at-answer.result) _ _ c.number-number.ensures c.walk_at-answer.ensures;
+      at_after = ap (place_behind at) values;
+      found_after = c.found-packets.ensures ∙ ap (λ (x : Answer). length x.values) c.walk_at-answer.ensures ∙ given_done _ _ _ is-done;
+      place_after = ap (λ (vs : List ℕ). (packet_at at vs).place) values ∙ given_done _ _ _ is-done;
+      size_after = ap (λ (vs : List ℕ). (packet_at at vs).size) values ∙ given_done _ _ _ is-done;
     }
 
 pub returns : goal.returns
 returns c =
     let h = c.if-number-eq-DONE.false in record {
-        value = number_given (walked_answer c.walk_at-answer.result) _ _ c.number-number.ensures c.walk_at-answer.ensures;
-        at_after = stays c.walk_at-answer.result _ _ _ c.walk_at-answer.ensures (sym c.number-number.ensures) h;
-        found_after = given_refused _ _ _ h;
-        place_after = given_refused _ _ _ h;
-        size_after = given_refused _ _ _ h;
+      value = number_given (walked_answer c.walk_at-answer.result) _ _ c.number-number.ensures c.walk_at-answer.ensures;
+      at_after = stays c.walk_at-answer.result _ _ _ c.walk_at-answer.ensures (sym c.number-number.ensures) h;
+      found_after = given_refused _ _ _ h;
+      place_after = given_refused _ _ _ h;
+      size_after = given_refused _ _ _ h;
     }

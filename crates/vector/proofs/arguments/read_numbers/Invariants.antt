@@ -1,3 +1,4 @@
+-- `vector::arguments::read_numbers` is safe and ends. The loop's invariant: the field is one of the form. Assumes nothing.
 use Rattle.std.proofs.Common.{◌≤◌, length}
 use Rattle.vector.proofs.arguments.read_numbers.Given as goal
 

@@ -1,3 +1,4 @@
+-- `vector::arguments::trimmed` is safe and ends. The loop's invariant: the end is within the bytes. Assumes nothing.
 use Rattle.std.proofs.Common.{◌≤◌, length}
 use Rattle.vector.proofs.arguments.trimmed.Given as goal
 

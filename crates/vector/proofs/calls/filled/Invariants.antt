@@ -1,3 +1,4 @@
+-- `vector::calls::filled` is safe and ends. The loop's invariant: the place is within the output. Assumes nothing.
 use Rattle.std.proofs.Common.{◌-◌, ◌≤◌}
 use Rattle.vector.proofs.calls.filled.Given as goal
 

@@ -1,3 +1,4 @@
+-- `vector::calls::usb_walk` is safe and ends: the turns are counted down. Assumes nothing.
 use Rattle.std.proofs.Common.{◌≤◌}
 use Rattle.vector.proofs.calls.usb_walk.Given as goal
 

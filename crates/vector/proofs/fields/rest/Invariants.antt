@@ -1,3 +1,4 @@
+-- `vector::fields::rest` is safe and ends. The loop's invariant: the place is within the text. Assumes nothing.
 use Rattle.std.proofs.Common.{◌≤◌, length}
 use Rattle.vector.proofs.fields.rest.Given as goal
 

@@ -1,3 +1,4 @@
+-- `vector::fields::row_of` is safe and ends. The loop's invariant: the row is within the length of the table. Assumes nothing.
 use Rattle.std.proofs.Common.{◌-◌, ◌≤◌, length}
 use Rattle.vector.proofs.fields.row_of.Given as goal
 

@@ -1,3 +1,4 @@
+-- `vector::receivers::by_step` is safe and ends. The loop's invariant: the place is within the stream. Assumes nothing.
 use Rattle.std.proofs.Common.{◌-◌, ◌≤◌, length}
 use Rattle.vector.proofs.receivers.by_step.Given as goal
 

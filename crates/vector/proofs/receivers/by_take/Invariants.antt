@@ -1,3 +1,4 @@
+-- `vector::receivers::by_take` is safe and ends: the turns are counted down. Assumes nothing.
 use Rattle.std.proofs.Common.{◌≤◌}
 use Rattle.vector.proofs.receivers.by_take.Given as goal
 
