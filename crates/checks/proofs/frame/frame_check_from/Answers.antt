@@ -1,6 +1,6 @@
 -- `checks::frame_check_from` meets its contract. The loop's invariant: the check of what is left, from the register on, is the check of the
 -- whole. A turn is one byte step, by the table. The register is kept in 32 bits, and 16 hold it. Assumes nothing.
-use Prim.Native.Nat.{ℕ, ◌-◌, ◌≤◌}
+use Prim.Native.Nat.{ℕ, ◌≤◌}
 use mathlib.Core.Path.{◌≡◌, ◌∙◌, refl, sym}
 use mathlib.Core.List.{List}
 use native.Mathlib.Nat.{lt_of_lt_of_le}

@@ -1,6 +1,6 @@
 -- `checks::pec_from` meets its contract. The loop's invariant: the PEC of what is left, from the register on, is the PEC of the whole, and
 -- the register is a byte. A turn is one byte step: the table's entry, by its rule. Assumes nothing.
-use Prim.Native.Nat.{ℕ, ◌-◌, ◌<◌}
+use Prim.Native.Nat.{ℕ, ◌<◌}
 use mathlib.Core.Path.{◌∙◌, ap, refl, subst, sym}
 use mathlib.Core.List.{List}
 use native.Mathlib.Omega.{arith}

@@ -1,6 +1,6 @@
 -- `framing::frame::escapes_in` meets its contract. The loop's invariant: what is counted and the escapes of what is left are the packet's.
 -- Assumes nothing.
-use Prim.Native.Nat.{ℕ, ◌+◌, ◌-◌, ◌≤◌, ◌<◌}
+use Prim.Native.Nat.{ℕ, ◌+◌, ◌≤◌, ◌<◌}
 use mathlib.Core.Path.{◌≡◌, ap}
 use mathlib.Core.List.{List}
 use native.Mathlib.Nat.{zero-add}

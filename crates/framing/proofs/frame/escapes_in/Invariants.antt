@@ -1,5 +1,5 @@
 use Prim.Native.Nat.{◌+◌, ◌-◌, ◌≤◌}
-use mathlib.Core.Path.{◌≡◌, ap}
+use mathlib.Core.Path.{◌≡◌}
 use lib.ListN.{length, drop}
 use Rattle.framing.specs.Frame.{escapes}
 use Rattle.framing.proofs.frame.escapes_in.Given as goal

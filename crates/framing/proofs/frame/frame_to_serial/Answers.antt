@@ -36,16 +36,16 @@ with-room packet room n h e fits =
 pub returns-then-count-lt-PACKET_LEAST : goal.returns-then-count-lt-PACKET_LEAST
 unfolding output_of
 returns-then-count-lt-PACKET_LEAST c = record {
-        result_value = too_short _ _ (omega arith);
-        out_after = refl;
-    }
+  result_value = too_short _ _ (omega arith);
+  out_after = refl;
+}
 
 pub returns-then-count-gt-PACKET_MOST : goal.returns-then-count-gt-PACKET_MOST
 unfolding output_of
 returns-then-count-gt-PACKET_MOST c = record {
-        result_value = too_long _ _ (omega arith);
-        out_after = refl;
-    }
+  result_value = too_long _ _ (omega arith);
+  out_after = refl;
+}
 
 pub overflow_add-len : goal.overflow_add-len
 overflow_add-len c =
@@ -63,8 +63,8 @@ returns-then-out-len c =
     let packet = c.args.packet.now in
     let e = frame_length packet in
     record {
-        result_value = no_room packet _ (sendable_within packet (omega arith) (omega arith)) (omega arith);
-        out_after = refl;
+      result_value = no_room packet _ (sendable_within packet (omega arith) (omega arith)) (omega arith);
+      out_after = refl;
     }
 
 pub write_frame-requires : goal.write_frame-requires
@@ -78,6 +78,6 @@ returns c =
     let packet = c.args.packet.now in
     let e = frame_length packet in
     record {
-        result_value = with-room packet _ _ (sendable_within packet (omega arith) (omega arith)) (omega arith) (omega arith);
-        out_after = c.write_frame.ensures;
+      result_value = with-room packet _ _ (sendable_within packet (omega arith) (omega arith)) (omega arith) (omega arith);
+      out_after = c.write_frame.ensures;
     }

@@ -1,7 +1,7 @@
 -- `framing::frame::write_escaped` meets its contract. The loop's invariant: to write what is left of the packet, escaped, from the place on
 -- makes the output that is promised, and the check of what is left, from the register on, is the check of the whole. A turn writes the first byte
 -- of what is left and is its byte step. Assumes nothing.
-use Prim.Native.Nat.{ℕ, ◌+◌, ◌-◌}
+use Prim.Native.Nat.{ℕ}
 use mathlib.Core.Path.{◌≡◌, ◌∙◌, ap, refl, sym}
 use mathlib.Core.List.{List, [], ◌∷◌, ◌++◌}
 use native.Mathlib.Omega.{arith}
@@ -56,7 +56,7 @@ returns c =
     let place = c.loop-i.place in
     let out = c.loop-i.out in
     let kept = put_none place out (omega (arith, ap length e)) in record {
-        place_value = omega (arith, ap length e, c.loop-i.invariant.2);
-        register_value = sym (check_end frame_register packet c.loop-i.register c.loop-i.i (omega arith)) ∙ c.loop-i.invariant.4;
-        out_after = sym (ap (λ (ys : List ℕ). put_at place ys out) e ∙ kept) ∙ c.loop-i.invariant.3;
+      place_value = omega (arith, ap length e, c.loop-i.invariant.2);
+      register_value = sym (check_end frame_register packet c.loop-i.register c.loop-i.i (omega arith)) ∙ c.loop-i.invariant.4;
+      out_after = sym (ap (λ (ys : List ℕ). put_at place ys out) e ∙ kept) ∙ c.loop-i.invariant.3;
     }

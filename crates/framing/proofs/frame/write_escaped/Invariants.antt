@@ -1,9 +1,9 @@
 use Prim.Native.Nat.{◌+◌, ◌-◌, ◌≤◌}
-use mathlib.Core.Path.{◌≡◌, ap}
+use mathlib.Core.Path.{◌≡◌}
 use lib.ListN.{length, drop}
 use Rattle.checks.specs.FrameCheck.{frame_check_from}
 use Rattle.checks.specs.Output.{put_at}
-use Rattle.framing.specs.Frame.{escaped, escaped_all}
+use Rattle.framing.specs.Frame.{escaped_all}
 use Rattle.framing.proofs.frame.write_escaped.Given as goal
 
 abbrev pub invariant-loop-i : goal.invariant-loop-i

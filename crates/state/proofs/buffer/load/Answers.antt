@@ -1,16 +1,11 @@
 -- `load` meets its contract: by its two tests the buffer holds a state or none; then each field is read where the definition reads it, and the stored bytes
 -- are those behind the first four. Assumes nothing.
-use Prim.Native.Nat.{ℕ, ◌-◌}
-use mathlib.Core.Path.{◌≡◌, ◌∙◌, ap, sym}
-use mathlib.Core.List.{List, ◌++◌, append-nil}
+use mathlib.Core.Path.{◌≡◌, ◌∙◌, sym}
 use native.Mathlib.Omega.{arith}
-use lib.ListN.{drop, drop_of_length-le, get_or, length, length-drop, replicate, length-replicate, take}
+use lib.ListN.{get_or}
 use borrow.Author.Rules.{part_to_end}
-use Rattle.checks.proofs.Output.{start_copied}
-use Rattle.serial.specs.Receiver.{stored_size}
-use Rattle.state.specs.State.{state_of, state_size, stored_at}
+use Rattle.state.specs.State.{state_of, stored_at}
 use Rattle.state.proofs.State.{loaded_known, loaded_other, loaded_unknown}
-use borrow.Author.Rules.{rules}
 use Rattle.state.proofs.buffer.load.Goals as goal
 
 pub returns-then-bytes-ne-STATE_SIZE : goal.returns-then-bytes-ne-STATE_SIZE

@@ -1,6 +1,6 @@
 -- `store` meets its contract: a buffer of another size is left, a state that is too large leaves a first byte that is no position's number, and of any other
 -- four stores and a copy behind them write the state's bytes, which fill the buffer. Assumes nothing.
-use Prim.Native.Nat.{ℕ, ◌/◌, ◌%◌, ◌+◌, ◌-◌, ◌≤◌}
+use Prim.Native.Nat.{ℕ, ◌/◌, ◌%◌, ◌-◌}
 use mathlib.Core.Path.{◌≡◌, ◌∙◌, ap, sym}
 use mathlib.Core.List.{List, ◌∷◌, ◌++◌, append-nil}
 use native.Mathlib.Omega.{arith}
@@ -10,7 +10,6 @@ use Rattle.checks.specs.Output.{at_start}
 use borrow.Rule.Slice.PartMut.{put_mid}
 use Rattle.checks.proofs.Output.{four_copied, four_length, four_stored}
 use Rattle.serial.specs.declared.receiver.Receiver.{Receiver}
-use Rattle.framing.specs.Frame.{packet_most}
 use Rattle.serial.specs.Receiver.{stored_size}
 use Rattle.state.specs.State.{state_size}
 use Rattle.state.proofs.State.{left_large, left_length, left_other, left_stored, small}

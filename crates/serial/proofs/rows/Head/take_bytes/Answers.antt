@@ -1,6 +1,6 @@
 -- `take_bytes` meets its contract. The loop's invariant: taking on from here is taking from the start, and the state stays consistent.
 -- Assumes nothing.
-use Prim.Native.Nat.{ℕ, ◌-◌, ◌<◌}
+use Prim.Native.Nat.{ℕ, ◌<◌}
 use mathlib.Core.Path.{◌∙◌, ap, sym, subst}
 use native.Mathlib.Nat.{sub-zero}
 use native.Mathlib.Omega.{arith}

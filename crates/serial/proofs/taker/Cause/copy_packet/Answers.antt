@@ -6,12 +6,9 @@ use mathlib.Core.List.{List, ◌++◌}
 use native.Mathlib.Omega.{arith}
 use lib.ListN.{drop, length, length-drop, take}
 use lib.Seq.{length-take-le}
-use borrow.Author.Rules.{rules}
-use Rattle.checks.specs.Output.{at_start}
 use Rattle.serial.specs.declared.receiver.Receiver.{Receiver}
 use Rattle.serial.specs.declared.taker.Cause.{Cause}
 use Rattle.serial.specs.declared.taker.Cause.TheVariants.{InputEnded, AllowanceSpent, Packet}
-use Rattle.serial.specs.Receiver.{stored_size}
 use Rattle.serial.specs.Core.{Bounded, held, reason_of}
 use Rattle.serial.specs.Taker.{copied_of}
 use Rattle.serial.proofs.taker.Cause.copy_packet.Goals as goal
