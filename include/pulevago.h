@@ -1,6 +1,6 @@
 /*
- * Pulevago: the serial, I2C and USB bindings of MCTP, proved. Link target/staticlib/libpulevago.a, which `rt staticlib pulevago` builds (x86-64,
- * System V calls).
+ * Pulevago: the serial, I2C and USB bindings of MCTP, proved. Link crates/pulevago/out/libpulevago.a, which `rt lib` in
+ * crates/pulevago builds (x86-64, System V calls).
  *
  * Every function returns one of the numbers below. What it gives beside that it writes through the pointers to single values. A refusal, which is
  * any number but PULEVAGO_DONE, writes through none of them and changes no byte of an output; what it does to a receiver's state is said there.

@@ -1,4 +1,4 @@
-//! Finds Pulevago's archive and has it linked: in the folder that PULEVAGO_LIB_DIR names, else in target/staticlib below the
+//! Finds Pulevago's archive and has it linked: in the folder that PULEVAGO_LIB_DIR names, else in crates/pulevago/out below the
 //! repository's root. A folder that is not absolute begins at this package.
 
 use std::env;
@@ -7,7 +7,7 @@ use std::process::exit;
 
 const ARCHIVE: &str = "libpulevago.a";
 const FOLDER_VARIABLE: &str = "PULEVAGO_LIB_DIR";
-const USUAL_FOLDER: &str = "../../target/staticlib";
+const USUAL_FOLDER: &str = "../../crates/pulevago/out";
 
 fn main() {
     refuse_other_targets();
@@ -17,7 +17,7 @@ fn main() {
     println!("cargo:rerun-if-changed={}", archive.display());
     if !archive.is_file() {
         stop(&format!(
-            "there is no {}: build it with `rt staticlib pulevago`, or name the folder that holds {ARCHIVE} in {FOLDER_VARIABLE}",
+            "there is no {}: build it with `rt lib` in crates/pulevago, or name the folder that holds {ARCHIVE} in {FOLDER_VARIABLE}",
             archive.display()
         ));
     }

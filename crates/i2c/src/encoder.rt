@@ -48,7 +48,10 @@ fn write_plain(own: u8, dest: u8, payload: &[u8], out: &mut [u8])
     out[1] = MCTP_I2C_COMMAND_CODE;
     out[2] = (payload.len() + 1) as u8;
     out[3] = own * 2 + 1;
-    out[MCTP_I2C_HEADER..MCTP_I2C_HEADER + payload.len()].copy_from_slice(payload);
+    checks::copy_over(
+        &mut out[MCTP_I2C_HEADER..MCTP_I2C_HEADER + payload.len()],
+        payload,
+    );
 }
 
 // The same, and the PEC over both behind them.

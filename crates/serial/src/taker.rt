@@ -102,7 +102,7 @@ impl Cause {
     {
         match self {
             Cause::Packet(n) => {
-                out[..n].copy_from_slice(&stored[2..n + 2]);
+                checks::copy_over(&mut out[..n], &stored[2..n + 2]);
             }
             Cause::InputEnded => {}
             Cause::AllowanceSpent => {}

@@ -48,7 +48,7 @@ pub fn load(bytes: &[u8]) -> Receiver
         return no_state();
     }
     let mut stored = [0; STORED_SIZE];
-    stored.copy_from_slice(&bytes[STORED_AT..]);
+    checks::copy_over(&mut stored, &bytes[STORED_AT..]);
     let position = Position::of(first);
     let count = bytes[1] as usize;
     let len = word(bytes[2], bytes[3]);
@@ -80,5 +80,5 @@ pub fn store(receiver: Receiver, bytes: &mut [u8])
     bytes[1] = count as u8;
     bytes[2] = (len / 256) as u8;
     bytes[3] = (len % 256) as u8;
-    bytes[STORED_AT..].copy_from_slice(&stored);
+    checks::copy_over(&mut bytes[STORED_AT..], &stored);
 }

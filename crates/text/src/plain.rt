@@ -21,7 +21,7 @@ pub fn put(text: &[u8], out: &mut [u8], place: usize) -> usize
     ensures prefix_len { IsPrefixLen result out.new }
 {
     if has_room(place, text.len(), out.len()) {
-        out[place..place + text.len()].copy_from_slice(text);
+        checks::copy_over(&mut out[place..place + text.len()], text);
         return place + text.len();
     }
     out.len()

@@ -53,7 +53,7 @@ fn put(packet: &[u8], part: &mut [u8])
     ensures { part.new ≡ at_start (framed packet.now) part.old }
 {
     usb::header(packet.len(), &mut part[..HDR_LEN]);
-    part[HDR_LEN..HDR_LEN + packet.len()].copy_from_slice(packet);
+    checks::copy_over(&mut part[HDR_LEN..HDR_LEN + packet.len()], packet);
 }
 
 // Appends the packet behind its header to the `used` bytes of the output, and hands back how many are used then. It refuses a packet over 251 bytes

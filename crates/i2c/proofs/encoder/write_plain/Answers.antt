@@ -41,7 +41,7 @@ pub returns : goal.returns
 returns c =
     let a = c.args in
     all-written a.own a.dest a.payload.now a.out.now _
-    (behind-four _ _ _ _ _ a.payload.now a.out.now _ (omega arith) (omega arith) c.copy_from_slice.ensures.after)
+    (behind-four _ _ _ _ _ a.payload.now a.out.now _ (omega arith) (omega arith) c.copy_over.ensures)
 
 pub shape_of-out : goal.shape_of-out
 shape_of-out c =

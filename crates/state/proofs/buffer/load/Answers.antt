@@ -28,6 +28,6 @@ returns c =
       position = c.of-position.ensures i;
       count = get_or bytes 1 0;
       len = c.word-len.ensures i;
-      stored = (c.copy_from_slice.ensures.after ∙ part_to_end bytes stored_at) i;
+      stored = (c.copy_over.ensures ∙ part_to_end bytes stored_at) i;
     } in
     fields ∙ sym (loaded_known bytes c.if-bytes-ne-STATE_SIZE.false c.if-first-ge-NO_POSITION.false)

@@ -59,7 +59,7 @@ returns c =
     let r = c.args.receiver in
     let bytes = c.args.bytes.now in
     let size : length r.stored ≡ stored_size = search rules in
-    stored-all r c.number.result bytes _ size room c.copy_from_slice.ensures.after
+    stored-all r c.number.result bytes _ size room c.copy_over.ensures
     ∙ ap (λ (number : ℕ). number ∷ r.count ∷ (r.len / 256) ∷ (r.len % 256) ∷ r.stored) c.number.ensures
     ∙ sym (left_stored bytes r room c.if-count-len.false)
 

@@ -11,7 +11,7 @@ returns-then-has_room c =
     let a = c.args in
     let there = sym c.has_room.ensures ∙ c.if-has_room.true in
     all_put a.place a.text.now a.out.now _ _ there refl
-    (put_copied a.place _ a.text.now a.out.now _ (omega (arith, leb-true _ _ there)) (omega arith) c.copy_from_slice.ensures.after)
+    (put_copied a.place _ a.text.now a.out.now _ (omega (arith, leb-true _ _ there)) (omega arith) c.copy_over.ensures)
 
 pub returns : goal.returns
 returns c =

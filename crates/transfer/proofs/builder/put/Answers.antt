@@ -45,5 +45,5 @@ both-written packet part head tail r small room e w t =
 pub returns : goal.returns
 returns c =
     let a = c.args in
-    both-written a.packet.now a.part.now c.header.new.out c.copy_from_slice.new.self c.header.result (omega arith) (omega arith)
-    c.header.ensures.result_value c.header.ensures.out_after c.copy_from_slice.ensures.after
+    both-written a.packet.now a.part.now c.header.new.out c.copy_over.new.part c.header.result (omega arith) (omega arith)
+    c.header.ensures.result_value c.header.ensures.out_after c.copy_over.ensures

@@ -26,7 +26,7 @@ returns-in-Packet c =
     let few : n ≤ 255 = subst Bounded c.in-Packet.is c.requires.0 in
     let size : n + 2 - 2 ≡ n = omega arith in
     let part : length (take n from-two) ≡ n = length-take-le n from-two (omega (arith, length-drop 2 a.stored.now)) in
-    λ head. ap (λ (new : List ℕ). new ++ drop n a.out.now) (c.copy_from_slice.ensures.after ∙ ap (λ (k : ℕ). take k from-two) size)
+    λ head. ap (λ (new : List ℕ). new ++ drop n a.out.now) (c.copy_over.ensures ∙ ap (λ (k : ℕ). take k from-two) size)
     ∙ ap (λ (k : ℕ). take n from-two ++ drop k a.out.now) (sym part)
     ∙ copied-for a.self (Packet n) (held head a.stored.now) a.out.now c.in-Packet.is
 
