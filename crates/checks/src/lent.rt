@@ -1,12 +1,17 @@
 // Bytes into a part that is lent.
-ghost use Rattle.std.specs.Prelude.{◌≡◌, length};
+ghost use Rattle.std.specs.Prelude.{◌≡◌, ◌++◌, length, take, drop};
 
-// Copies the bytes over those of a part that has as many. It is a loop, so that the archive needs no memmove.
+// Copies the bytes to the start of a part: as many as it has room for, and where it has more room, what is behind them keeps its content. It is a loop, so
+// that the archive needs no memmove. It refuses nothing.
 pub fn copy_over(part: &mut [u8], bytes: &[u8])
-    requires { length part.old ≡ length bytes.now }
-    ensures { part.new ≡ bytes.now }
+    ensures { part.new ≡ take (length part.old) bytes.now ++ drop (length bytes.now) part.old }
 {
-    for i in 0..part.len() {
+    let most = if part.len() < bytes.len() {
+        part.len()
+    } else {
+        bytes.len()
+    };
+    for i in 0..most {
         part[i] = bytes[i];
     }
 }

@@ -15,7 +15,7 @@ lines_answer (Done n) = answer done (n ∷ [])
 lines_answer ShortOutput = answer short_output []
 lines_answer Inconsistent = answer inconsistent []
 
--- the text lies within the output: the kit's `Counts`, so that a caller may lend its part
+-- the text lies within the output: the kit's `IsPrefixLen`, so that a caller may lend its part
 abbrev pub Within : Lines → List ℕ → Type 0
 Within (Done n) out = IsPrefixLen n out
 Within ShortOutput out = Unit {0}

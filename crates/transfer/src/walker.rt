@@ -1,4 +1,4 @@
-// The walker over a transfer: the covered functions on a slice and a place, for whoever loops, and the struct that holds both.
+// The walker over a transfer: the functions on a slice and a place, for whoever loops, and the struct that holds both.
 ghost use Rattle.std.specs.Prelude.{◌≡◌, length};
 ghost use Rattle.checks.specs.Numbers.{value_of};
 ghost use Rattle.checks.specs.Part.{IsPart};

@@ -7,8 +7,9 @@ use native.Mathlib.Nat.{add-zero}
 use native.Mathlib.Omega.{arith}
 use lib.ListN.{length, length-set, set}
 use borrow.Rule.Slice.PartMut.{put_mid}
+use borrow.Author.Rules.{rules}
 use Rattle.checks.specs.Output.{at_start, put_at}
-use Rattle.checks.proofs.Output.{length_start, put_copied, put_four, put_put}
+use Rattle.checks.proofs.Output.{copied_whole, length_start, put_copied, put_four, put_put}
 use Rattle.i2c.specs.Frame.{addressed, headed, plain}
 use Rattle.i2c.proofs.encoder.write_plain.Goals as goal
 
@@ -41,7 +42,7 @@ pub returns : goal.returns
 returns c =
     let a = c.args in
     all-written a.own a.dest a.payload.now a.out.now _
-    (behind-four _ _ _ _ _ a.payload.now a.out.now _ (omega arith) (omega arith) c.copy_over.ensures)
+    (behind-four _ _ _ _ _ a.payload.now a.out.now _ (omega arith) (omega arith) (copied_whole _ _ _ (search rules) c.copy_over.ensures))
 
 pub shape_of-out : goal.shape_of-out
 shape_of-out c =

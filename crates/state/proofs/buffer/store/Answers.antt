@@ -8,7 +8,7 @@ use lib.ListN.{drop_of_length-le, length, length-set}
 use borrow.Author.Rules.{rules}
 use Rattle.checks.specs.Output.{at_start}
 use borrow.Rule.Slice.PartMut.{put_mid}
-use Rattle.checks.proofs.Output.{four_copied, four_length, four_stored}
+use Rattle.checks.proofs.Output.{copied_whole, four_copied, four_length, four_stored}
 use Rattle.serial.specs.declared.receiver.Receiver.{Receiver}
 use Rattle.serial.specs.Receiver.{stored_size}
 use Rattle.state.specs.State.{state_size}
@@ -59,7 +59,7 @@ returns c =
     let r = c.args.receiver in
     let bytes = c.args.bytes.now in
     let size : length r.stored ≡ stored_size = search rules in
-    stored-all r c.number.result bytes _ size room c.copy_over.ensures
+    stored-all r c.number.result bytes _ size room (copied_whole _ _ _ (search rules) c.copy_over.ensures)
     ∙ ap (λ (number : ℕ). number ∷ r.count ∷ (r.len / 256) ∷ (r.len % 256) ∷ r.stored) c.number.ensures
     ∙ sym (left_stored bytes r room c.if-count-len.false)
 

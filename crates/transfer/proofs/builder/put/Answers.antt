@@ -8,10 +8,11 @@ use lib.ListN.{drop, length, take}
 use lib.Seq.{length-take-le}
 use borrow.Author.Tests.{eq-eqb, le-leb}
 use borrow.Rule.Slice.PartMut.{put_mid}
+use borrow.Author.Rules.{rules}
 use Rattle.checks.specs.Numbers.{answer, done}
 use Rattle.checks.proofs.Numbers.{same_number}
 use Rattle.checks.specs.Output.{at_start, put_at}
-use Rattle.checks.proofs.Output.{length_start, put_copied, put_put}
+use Rattle.checks.proofs.Output.{copied_whole, length_start, put_copied, put_put}
 use Rattle.usb.specs.declared.head.Headed.{Headed}
 use Rattle.usb.specs.declared.head.Headed.TheVariants.{Done, BadPacket}
 use Rattle.usb.specs.Header.{framed, headed_answer, header_answer, header_of, header_output, header_size, packet_most}
@@ -46,4 +47,4 @@ pub returns : goal.returns
 returns c =
     let a = c.args in
     both-written a.packet.now a.part.now c.header.new.out c.copy_over.new.part c.header.result (omega arith) (omega arith)
-    c.header.ensures.result_value c.header.ensures.out_after c.copy_over.ensures
+    c.header.ensures.result_value c.header.ensures.out_after (copied_whole _ _ _ (search rules) c.copy_over.ensures)

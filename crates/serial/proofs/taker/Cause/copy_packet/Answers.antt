@@ -6,6 +6,7 @@ use mathlib.Core.List.{List, ◌++◌}
 use native.Mathlib.Omega.{arith}
 use lib.ListN.{drop, length, length-drop, take}
 use lib.Seq.{length-take-le}
+use Rattle.checks.proofs.Output.{copied_whole}
 use Rattle.serial.specs.declared.receiver.Receiver.{Receiver}
 use Rattle.serial.specs.declared.taker.Cause.{Cause}
 use Rattle.serial.specs.declared.taker.Cause.TheVariants.{InputEnded, AllowanceSpent, Packet}
@@ -26,7 +27,10 @@ returns-in-Packet c =
     let few : n ≤ 255 = subst Bounded c.in-Packet.is c.requires.0 in
     let size : n + 2 - 2 ≡ n = omega arith in
     let part : length (take n from-two) ≡ n = length-take-le n from-two (omega (arith, length-drop 2 a.stored.now)) in
-    λ head. ap (λ (new : List ℕ). new ++ drop n a.out.now) (c.copy_over.ensures ∙ ap (λ (k : ℕ). take k from-two) size)
+    let room : length (take n a.out.now) ≡ n = length-take-le n a.out.now (omega arith) in
+    let same : length (take n a.out.now) ≡ length (take (n + 2 - 2) from-two) = room ∙ sym part ∙ ap (λ (k : ℕ). length (take k from-two)) (sym size) in
+    let copied = copied_whole (take n a.out.now) (take (n + 2 - 2) from-two) _ same c.copy_over.ensures in
+    λ head. ap (λ (new : List ℕ). new ++ drop n a.out.now) (copied ∙ ap (λ (k : ℕ). take k from-two) size)
     ∙ ap (λ (k : ℕ). take n from-two ++ drop k a.out.now) (sym part)
     ∙ copied-for a.self (Packet n) (held head a.stored.now) a.out.now c.in-Packet.is
 
