@@ -1,10 +1,12 @@
 // The parts of a text.
-ghost use Rattle.std.specs.Prelude.{◌≤◌, length};
+ghost use Rattle.std.specs.Prelude.{◌≡◌, ◌≢◌, ◌<◌, ◌≤◌, ℕ, length, slice_index};
 
 // The first place from `from` on at which the byte stands; the text's length where it stands at none.
-pub fn find(text: &[u8], from: usize, byte: u8) -> usize
+pub(crate) fn find(text: &[u8], from: usize, byte: u8) -> usize
     ensures within { result ≤ length text.now }
     ensures onward { from ≤ length text.now → from ≤ result }
+    ensures none_before { (k : ℕ) → from ≤ k → k < result → slice_index text.now k ≢ byte }
+    ensures found { result < length text.now → slice_index text.now result ≡ byte }
 {
     for i in from..text.len() {
         if text[i] == byte {

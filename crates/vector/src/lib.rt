@@ -12,4 +12,3 @@ mod words;
 
 pub use calls::WAYS;
 pub use compare::{Replayed, replay};
-pub use fields::find;

@@ -17,11 +17,8 @@ pub(crate) fn replay<R: Print>(rt: &R, path: &str, list: &[u8]) -> io::Result<()
         vectors: 0,
         disagree: 0,
     };
-    let mut place = 0;
-    while place < list.len() {
-        let end = vector::find(list, place, b'\n');
-        seen = seen.with(rt, path, &list[place..end])?;
-        place = end + 1;
+    for line in list.split(|b| *b == b'\n') {
+        seen = seen.with(rt, path, line)?;
     }
     report::summary(rt, path, seen.vectors, seen.disagree)
 }

@@ -36,6 +36,6 @@ returns c =
       position = c.of-position.ensures i;
       count = get_or bytes 1 0;
       len = c.word-len.ensures i;
-      stored = (copied_whole (replicate {A = ℕ} stored_size 0) _ _ most c.copy_over.ensures ∙ whole) i;
+      stored = (copied_whole (replicate {A = ℕ} stored_size 0) _ _ c.copy_over.ensures most ∙ whole) i;
     } in
     fields ∙ sym (loaded_known bytes c.if-bytes-ne-STATE_SIZE.false c.if-first-ge-NO_POSITION.false)

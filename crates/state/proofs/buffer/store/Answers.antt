@@ -4,11 +4,11 @@ use Prim.Native.Nat.{ℕ, ◌/◌, ◌%◌, ◌-◌}
 use mathlib.Core.Path.{◌≡◌, ◌∙◌, ap, sym}
 use mathlib.Core.List.{List, ◌∷◌, ◌++◌, append-nil}
 use native.Mathlib.Omega.{arith}
-use lib.ListN.{drop_of_length-le, length, length-set}
+use lib.ListN.{drop, drop_of_length-le, length, length-set, take}
 use borrow.Author.Rules.{rules}
 use Rattle.checks.specs.Output.{at_start}
 use borrow.Rule.Slice.PartMut.{put_mid}
-use Rattle.checks.proofs.Output.{copied_whole, four_copied, four_length, four_stored}
+use Rattle.checks.proofs.Output.{four_copied, four_length, four_stored}
 use Rattle.serial.specs.declared.receiver.Receiver.{Receiver}
 use Rattle.serial.specs.Receiver.{stored_size}
 use Rattle.state.specs.State.{state_size}
@@ -42,12 +42,15 @@ bounds-bytes-2 c = simp length-set (omega arith)
 pub bounds-bytes-3 : goal.bounds-bytes-3
 bounds-bytes-3 c = simp length-set (omega arith)
 
--- the buffer after the four stores and the copy
-stored-all : (receiver : Receiver) (number : ℕ) (bytes made : List ℕ) → length receiver.stored ≡ stored_size → length bytes ≡ state_size
-    → made ≡ receiver.stored
-    → put_mid 4 (length (four_stored number receiver.count (receiver.len / 256) (receiver.len % 256) bytes) - 4)
-    (four_stored number receiver.count (receiver.len / 256) (receiver.len % 256) bytes) made
-    ≡ number ∷ receiver.count ∷ (receiver.len / 256) ∷ (receiver.len % 256) ∷ receiver.stored
+-- the buffer's first bytes after the four stores
+abbrev first-four : Receiver → ℕ → List ℕ → List ℕ
+first-four r number bytes = four_stored number r.count (r.len / 256) (r.len % 256) bytes
+
+-- and the buffer after them and the copy
+stored-all : (r : Receiver) (number : ℕ) (bytes made : List ℕ) → length r.stored ≡ stored_size → length bytes ≡ state_size
+    → made ≡ at_start (take (length (take (length (first-four r number bytes) - 4) (drop 4 (first-four r number bytes)))) r.stored)
+    (take (length (first-four r number bytes) - 4) (drop 4 (first-four r number bytes)))
+    → put_mid 4 (length (first-four r number bytes) - 4) (first-four r number bytes) made ≡ number ∷ r.count ∷ (r.len / 256) ∷ (r.len % 256) ∷ r.stored
 stored-all r number bytes made size room e =
     four_copied number r.count (r.len / 256) (r.len % 256) _ r.stored bytes made (omega arith)
     (omega (arith, four_length number r.count (r.len / 256) (r.len % 256) bytes)) e
@@ -59,7 +62,7 @@ returns c =
     let r = c.args.receiver in
     let bytes = c.args.bytes.now in
     let size : length r.stored ≡ stored_size = search rules in
-    stored-all r c.number.result bytes _ size room (copied_whole _ _ _ (search rules) c.copy_over.ensures)
+    stored-all r c.number.result bytes _ size room c.copy_over.ensures
     ∙ ap (λ (number : ℕ). number ∷ r.count ∷ (r.len / 256) ∷ (r.len % 256) ∷ r.stored) c.number.ensures
     ∙ sym (left_stored bytes r room c.if-count-len.false)
 

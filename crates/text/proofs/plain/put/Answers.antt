@@ -2,8 +2,7 @@
 use mathlib.Core.Path.{◌∙◌, refl, sym}
 use native.Mathlib.Omega.{arith}
 use borrow.Author.Tests.{leb-true}
-use borrow.Author.Rules.{rules}
-use Rattle.checks.proofs.Output.{copied_whole, put_copied}
+use Rattle.checks.proofs.Output.{put_copied}
 use Rattle.text.proofs.PutLaws.{all_put, none_put}
 use Rattle.text.proofs.plain.put.Goals as goal
 
@@ -12,7 +11,7 @@ returns-then-has_room c =
     let a = c.args in
     let there = sym c.has_room.ensures ∙ c.if-has_room.true in
     all_put a.place a.text.now a.out.now _ _ there refl
-    (put_copied a.place _ a.text.now a.out.now _ (omega (arith, leb-true _ _ there)) (omega arith) (copied_whole _ _ _ (search rules) c.copy_over.ensures))
+    (put_copied a.place _ a.text.now a.out.now _ (omega (arith, leb-true _ _ there)) (omega arith) c.copy_over.ensures)
 
 pub returns : goal.returns
 returns c =

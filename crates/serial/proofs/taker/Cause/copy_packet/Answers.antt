@@ -29,7 +29,7 @@ returns-in-Packet c =
     let part : length (take n from-two) ≡ n = length-take-le n from-two (omega (arith, length-drop 2 a.stored.now)) in
     let room : length (take n a.out.now) ≡ n = length-take-le n a.out.now (omega arith) in
     let same : length (take n a.out.now) ≡ length (take (n + 2 - 2) from-two) = room ∙ sym part ∙ ap (λ (k : ℕ). length (take k from-two)) (sym size) in
-    let copied = copied_whole (take n a.out.now) (take (n + 2 - 2) from-two) _ same c.copy_over.ensures in
+    let copied = copied_whole (take n a.out.now) (take (n + 2 - 2) from-two) _ c.copy_over.ensures same in
     λ head. ap (λ (new : List ℕ). new ++ drop n a.out.now) (copied ∙ ap (λ (k : ℕ). take k from-two) size)
     ∙ ap (λ (k : ℕ). take n from-two ++ drop k a.out.now) (sym part)
     ∙ copied-for a.self (Packet n) (held head a.stored.now) a.out.now c.in-Packet.is
