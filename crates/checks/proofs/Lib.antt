@@ -4,6 +4,7 @@ mod Xor
 pub mod Register
 pub mod FrameCheck
 mod FrameStep
+mod Fold
 pub mod PacketErrorCode
 pub mod Part
 pub mod Numbers

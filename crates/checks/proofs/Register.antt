@@ -1,14 +1,11 @@
--- Laws of any register: over appends, over a list read by index, and its bound; then those on xor, for the registers that keep it.
+-- Laws of any register: over appends, and its bound; then those on xor, for the registers that keep it.
 -- Assumes nothing.
-use Prim.Native.Nat.{ℕ, zero, suc, ◌+◌, ◌*◌, ◌^◌, ◌≤◌, ◌<◌}
+use Prim.Native.Nat.{ℕ, zero, suc, ◌*◌, ◌^◌, ◌≤◌, ◌<◌}
 use mathlib.Core.Path.{◌≡◌, ◌∙◌, ap, ap₂, refl, sym}
 use mathlib.Core.List.{List, [], ◌∷◌, zip_with}
 use native.Mathlib.Nat.{lt_of_lt_of_le}
-use native.Mathlib.Numerals.{add-one}
 use native.Mathlib.Omega.{arith}
 use lib.Bits.{bit_xor, differ, xor_lt, xor_self, xor_zero_r}
-use lib.ListN.{length, drop, get_or, drop_of_length-le}
-use lib.Seq.{drop-cons}
 use Rattle.checks.specs.Register.{Register, bit_step, bit_steps, byte_step, check_from}
 use Rattle.checks.specs.Laws.{Joins, OneMore, StaysBelow, LinearOverXor, Differences}
 use Rattle.checks.specs.BitOrder.{bit_enters, bits_enter, InOrder}
@@ -22,16 +19,6 @@ joins g r (x ∷ xs) ys = joins g (byte_step g r x) xs ys
 pub one_more : (g : Register) → OneMore g
 unfolding check_from
 one_more g r bytes b = joins g r bytes (b ∷ [])
-
--- A list read by index: what is left from i on, where `next` is the register after the byte at i; and past the end.
-pub check_next : (g : Register) (bytes : List ℕ) (r next i : ℕ) → i < length bytes → next ≡ byte_step g r (get_or bytes i 0)
-    → check_from g next (drop (i + 1) bytes) ≡ check_from g r (drop i bytes)
-unfolding check_from
-check_next g bytes r next i h e = rw (e, add-one, drop-cons bytes i 0)
-
-pub check_end : (g : Register) (bytes : List ℕ) (r i : ℕ) → length bytes ≤ i → check_from g r (drop i bytes) ≡ r
-unfolding check_from
-check_end g bytes r i h = ap (check_from g r) (drop_of_length-le bytes {i = i} h)
 
 -- A bit step that stays within k bits, at least eight, keeps the check there.
 module _ (g : Register) (k : ℕ) (wide : 256 ≤ 2 ^ k) (stays : (r : ℕ) → r < 2 ^ k → bit_step g r < 2 ^ k) where

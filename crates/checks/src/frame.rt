@@ -22,13 +22,10 @@ pub fn frame_check_from(register: u16, bytes: &[u8]) -> u16
     ensures { result ≡ frame_check_from register bytes.now }
 {
     let table = frame_table();
-    let mut reg = register as u32;
-    let mut i = 0;
-    while i < bytes.len() {
-        let low = ((reg ^ (bytes[i] as u32)) % 256) as usize;
-        reg = (reg >> 8) ^ (table[low] as u32);
-        i += 1;
-    }
+    let reg = bytes.iter().fold(register as u32, |reg, &b| {
+        let low = ((reg ^ (b as u32)) % 256) as usize;
+        (reg >> 8) ^ (table[low] as u32)
+    });
     reg as u16
 }
 

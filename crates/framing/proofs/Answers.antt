@@ -4,19 +4,20 @@ use mathlib.Core.Bool.{cond}
 use lib.Dec.{eqb}
 use Rattle.checks.specs.Numbers.{Answer, done, value_of}
 use Rattle.checks.proofs.Numbers.{tells}
-use Rattle.framing.specs.declared.frame.Written.{Written}
-use Rattle.framing.specs.declared.frame.Written.TheVariants.{Done, BadLength, ShortOutput}
+use Rattle.std.proofs.Common.{Err, Ok, Result, ℕ}
+use Rattle.framing.specs.declared.error.FrameError.{FrameError}
+use Rattle.framing.specs.declared.error.FrameError.TheVariants.{BadLength, ShortOutput}
 use Rattle.framing.specs.Numbers.{bad_length}
 use Rattle.framing.specs.Writer.{written_answer}
 
 -- the result, back from its answer
-abbrev back : Answer → Written
-back a = cond (eqb a.number done) (Done (value_of a)) (cond (eqb a.number bad_length) BadLength ShortOutput)
+abbrev back : Answer → Result ℕ FrameError
+back a = cond (eqb a.number done) (Ok (value_of a)) (cond (eqb a.number bad_length) (Err BadLength) (Err ShortOutput))
 
-there_and_back : (x : Written) → back (written_answer x) ≡ x
-there_and_back (Done n) = refl
-there_and_back BadLength = refl
-there_and_back ShortOutput = refl
+there_and_back : (x : Result ℕ FrameError) → back (written_answer x) ≡ x
+there_and_back (Ok n) = refl
+there_and_back (Err BadLength) = refl
+there_and_back (Err ShortOutput) = refl
 
-pub same_written : (x y : Written) → written_answer x ≡ written_answer y → x ≡ y
+pub same_written : (x y : Result ℕ FrameError) → written_answer x ≡ written_answer y → x ≡ y
 same_written = tells written_answer back there_and_back

@@ -7,6 +7,8 @@ use mathlib.Core.Bool.{Bool, true, false, cond, ◌||◌}
 use mathlib.Core.List.{List, [], ◌∷◌, ◌++◌, append_assoc}
 use native.Mathlib.Omega.{arith}
 use lib.Dec.{eqb}
+use Rattle.std.specs.List.{sum_by}
+use Rattle.std.proofs.lemmas.List.Recursion.{is_sum_by}
 use lib.ListN.{length, get_or, drop, length-append}
 use borrow.Author.Tests.{eqb-true}
 use Rattle.checks.specs.Laws.{Bytes}
@@ -48,6 +50,11 @@ frame_room packet = omega (arith, length-append (escaped_all packet) (check_byte
 
 pub frame_length : FrameLength
 frame_length packet = omega (arith, frame_room packet, escaped_all_length packet)
+
+-- how many they are, as the library adds
+pub escapes_summed : (packet : List ℕ) → escapes packet ≡ sum_by escapes_of packet
+unfolding escapes
+escapes_summed packet = is_sum_by escapes escapes_of refl (λ b bs. refl) packet
 
 at_most_one : (t : Bool) → cond t 1 0 ≤ 1
 at_most_one true = omega arith

@@ -1,5 +1,6 @@
 pub mod Computed
 pub mod FrameLaws
 pub mod Writer
+pub mod Writing
 pub mod Answers
 pub mod OneResult

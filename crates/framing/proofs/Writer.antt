@@ -4,6 +4,8 @@ use mathlib.Core.Path.{◌≡◌}
 use mathlib.Core.Bool.{true}
 use mathlib.Core.List.{List}
 use lib.Dec.{leb}
+use Rattle.std.proofs.Common.{arith, is_le, nat_cmp}
+use Rattle.std.proofs.lemmas.Bool.Decides.{nat_tests}
 use lib.ListN.{length}
 use borrow.Author.Tests.{le-leb, leb-true}
 use Rattle.checks.proofs.Choice.{and, left, right}
@@ -20,3 +22,7 @@ sendable_tested packet bytes =
       λ sent. sendable_within packet sent.1 sent.2,
       λ e. (bytes, leb-true packet_least (length packet) (left enough few e), leb-true (length packet) packet_most (right enough few e)),
     )
+
+-- the same test by a range that holds both limits
+pub le_tested : (a b : ℕ) → is_le (nat_cmp a b) ≡ leb a b
+le_tested a b = grind (arith, nat_tests)

@@ -1,8 +1,8 @@
 -- What is computed from the definitions: frames written out byte by byte, and what a writer answers and leaves. An error in a definition breaks these
 -- first, and a writer that answers or leaves anything else there breaks its contract. The proofs: `proofs/Computed.antt`. Assumes nothing.
-use Rattle.std.specs.Prelude.{ℕ, ◌≡◌, List, [], ◌∷◌, ◌++◌, replicate}
+use Rattle.std.specs.Prelude.{ℕ, ◌≡◌, List, [], ◌∷◌, ◌++◌, Ok, Err, replicate}
 use Rattle.checks.specs.Numbers.{answer, done, short_output, value_of}
-use Rattle.framing.specs.declared.frame.Written.TheVariants.{Done, BadLength, ShortOutput}
+use Rattle.framing.specs.declared.error.FrameError.TheVariants.{BadLength, ShortOutput}
 use Rattle.framing.specs.Frame.{flag, frame}
 use Rattle.framing.specs.Numbers.{bad_length}
 use Rattle.framing.specs.Writer.{output_of, writer_answer, written_answer}
@@ -32,9 +32,9 @@ FlagAsCount =
 -- the number of every answer, from document 01's table, and its value, which is 0 where it has none: no other number (3 is I2C's), no length lost, and no
 -- value of a refusal
 abbrev pub NumbersTold : Type 0
-NumbersTold = (n : ℕ) → ((written_answer (Done n)).number ≡ 0) × (value_of (written_answer (Done n)) ≡ n)
-    × ((written_answer BadLength).number ≡ 1) × (value_of (written_answer BadLength) ≡ 0)
-    × ((written_answer ShortOutput).number ≡ 2) × (value_of (written_answer ShortOutput) ≡ 0)
+NumbersTold = (n : ℕ) → ((written_answer (Ok n)).number ≡ 0) × (value_of (written_answer (Ok n)) ≡ n)
+    × ((written_answer (Err BadLength)).number ≡ 1) × (value_of (written_answer (Err BadLength)) ≡ 0)
+    × ((written_answer (Err ShortOutput)).number ≡ 2) × (value_of (written_answer (Err ShortOutput)) ≡ 0)
 
 -- packets of 4, 5, 255 and 256 bytes, which have no byte to escape: 5 to 255 are written, each into six bytes more, and into one byte less of room not
 abbrev pub LengthsAnswered : Type 0
@@ -48,8 +48,8 @@ LengthFirst = writer_answer [] 0 ≡ answer bad_length []
 
 -- a writer that answers done and writes nothing does not meet its contract: twelve zeros are not case A's frame
 abbrev pub SomethingWritten : Type 0
-SomethingWritten = output_of (Done 12) (ending flag) (replicate 12 0x00) ≡ replicate 12 0x00 → ⊥
+SomethingWritten = output_of (Ok 12) (ending flag) (replicate 12 0x00) ≡ replicate 12 0x00 → ⊥
 
 -- the bytes beyond the frame keep their content, the very next one too
 abbrev pub RestKept : Type 0
-RestKept = output_of (Done 12) (ending flag) (replicate 14 0xaa) ≡ frame (ending flag) ++ (0xaa ∷ 0xaa ∷ [])
+RestKept = output_of (Ok 12) (ending flag) (replicate 14 0xaa) ≡ frame (ending flag) ++ (0xaa ∷ 0xaa ∷ [])

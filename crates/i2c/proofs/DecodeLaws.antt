@@ -1,19 +1,24 @@
 -- Laws of decode's definitions: what each check makes of the answer, and back, what an answer tells of the input. The definition tests one thing
 -- after the other, so each test's outcome gives the answer, and a source is answered only behind all of them. Assumes nothing.
 use Prim.Native.Nat.{ℕ, ◌-◌, ◌/◌, ◌≤◌, ◌<◌}
-use mathlib.Core.Path.{◌≡◌, refl}
+use mathlib.Core.Path.{◌≡◌, ◌∙◌, ap, refl, sym}
 use mathlib.Core.Bool.{Bool, true, false, cond, not, ◌&&◌}
 use mathlib.Core.List.{List, [], ◌∷◌}
+use mathlib.Core.Logic.{◌⊎◌, inl, inr}
 use native.Mathlib.Omega.{arith}
 use lib.Dec.{eqb, ltb}
 use lib.ListN.{length, get_or}
 use borrow.Author.Tests.{eq-eqb, eqb-false, eqb-true, le-ltb, lt-ltb, ltb-false, ne_eqb}
+use lib.Seq.{length-take-le}
+use Rattle.std.specs.Int.{from_bool}
 use Rattle.checks.specs.Numbers.{Answer, answer, done}
 use Rattle.checks.specs.PacketErrorCode.{pec_of}
 use Rattle.checks.specs.Part.{no_part, part}
 use Rattle.checks.proofs.Choice.{by_cond}
 use Rattle.checks.proofs.Numbers.{same_number, same_value}
-use Rattle.i2c.specs.Decode.{body, body_answer, but_last, decode_answer, last_byte, payload_part}
+use Rattle.i2c.specs.declared.decoder.DecodeError.{DecodeError}
+use Rattle.i2c.specs.declared.decoder.DecodeError.TheVariants.{InvalidInput}
+use Rattle.i2c.specs.Decode.{body, body_answer, but_last, decode_answer, decode_error_number, last_byte, payload_part}
 use Rattle.i2c.specs.Frame.{byte_count, command_code, header_size}
 use Rattle.i2c.specs.Numbers.{invalid_input}
 
@@ -33,18 +38,19 @@ pub body_short : (bytes : List ℕ) → length bytes < header_size → body_answ
 unfolding body_answer
 body_short bytes h = simp (lt-ltb (length bytes) header_size h)
 
-pub body_count : (bytes : List ℕ) → header_size ≤ length bytes → (get_or bytes 2 0 ≡ byte_count (length bytes - header_size) → ⊥)
+pub body_wrong : (bytes : List ℕ) → header_size ≤ length bytes → (count : ℕ) → count ≡ get_or bytes 2 0
+    → (count ≡ byte_count (length bytes - header_size) → ⊥) ⊎ ((count ≡ byte_count (length bytes - header_size)) × (get_or bytes 1 0 ≡ command_code → ⊥))
     → body_answer bytes ≡ answer invalid_input []
 unfolding body_answer
-body_count bytes h wrong = simp (le-ltb (length bytes) header_size h, ne_eqb (get_or bytes 2 0) (byte_count (length bytes - header_size)) wrong)
-
-pub body_command : (bytes : List ℕ) → header_size ≤ length bytes → get_or bytes 2 0 ≡ byte_count (length bytes - header_size)
-    → (get_or bytes 1 0 ≡ command_code → ⊥) → body_answer bytes ≡ answer invalid_input []
-unfolding body_answer
-body_command bytes h count wrong =
+body_wrong bytes h count there (inl wrong) =
     simp (
       le-ltb (length bytes) header_size h,
-      eq-eqb (get_or bytes 2 0) (byte_count (length bytes - header_size)) count,
+      ne_eqb (get_or bytes 2 0) (byte_count (length bytes - header_size)) (λ e. wrong (there ∙ e)),
+    )
+body_wrong bytes h count there (inr (right, wrong)) =
+    simp (
+      le-ltb (length bytes) header_size h,
+      eq-eqb (get_or bytes 2 0) (byte_count (length bytes - header_size)) (sym there ∙ right),
       ne_eqb (get_or bytes 1 0) command_code wrong,
     )
 
@@ -156,6 +162,20 @@ pub part_taken : (pec : Bool) (input vs : List ℕ) → decode_answer pec input 
 unfolding payload_part
 part_taken pec input vs e = rw e
 
-pub part_refused : (pec : Bool) (input : List ℕ) → decode_answer pec input ≡ answer invalid_input [] → payload_part pec input ≡ no_part
+pub part_refused : (pec : Bool) (input : List ℕ) (refused : DecodeError) → decode_answer pec input ≡ answer (decode_error_number refused) []
+    → payload_part pec input ≡ no_part
 unfolding payload_part
-part_refused pec input e = rw e
+part_refused pec input InvalidInput e = rw e
+
+-- how many bytes an input has without its PEC, of which there is one or none
+body-length : (pec : Bool) (input : List ℕ) → length (body pec input) ≡ length input - from_bool pec
+body-length true input = length-take-le (length input - 1) input (omega arith)
+body-length false input = omega arith
+
+-- an input of which a source is answered: the header is within these, and the payload behind it
+module _ (pec : Bool) (input : List ℕ) (source n : ℕ) (e : decode_answer pec input ≡ answer done (source ∷ [])) (one : n ≡ from_bool pec) where
+  pub payload_starts : header_size ≤ length input - n
+  payload_starts = omega (arith, body-length pec input, (decode_taken pec input source e).long)
+
+  pub payload_lies : payload_part pec input ≡ part header_size (length input - n - header_size)
+  payload_lies = part_taken pec input (source ∷ []) e ∙ ap (λ (k : ℕ). part header_size (k - header_size)) (omega (arith, body-length pec input))

@@ -13,6 +13,7 @@ use Rattle.checks.specs.Numbers.{Answer, answer, done}
 use Rattle.checks.specs.PacketErrorCode.{pec_of}
 use Rattle.checks.specs.Part.{Inside, Part, bytes_of, no_part, part}
 use Rattle.checks.proofs.Last.{front_append, front_last, last_append}
+use Rattle.i2c.specs.declared.decoder.DecodeError.TheVariants.{InvalidInput}
 use Rattle.i2c.specs.Decode.{body, body_answer, but_last, decode_answer, payload_part}
 use Rattle.i2c.specs.Frame.{closed, headed, header_size, with_pec}
 use Rattle.i2c.specs.Laws.{NotTested, OnlyFrames, PayloadInside, PecOnly, WrongPecRefused}
@@ -48,7 +49,7 @@ payload_inside pec input = elim (decides pec input) [
   | accepts source e ↦
       let long = (decode_taken pec input source e).long in
       subst (λ (p : Part). Inside p (length input)) (sym (part_taken pec input (source ∷ []) e)) (omega (arith, body_within pec input))
-  | refuses e ↦ subst (λ (p : Part). Inside p (length input)) (sym (part_refused pec input e)) (omega arith)
+  | refuses e ↦ subst (λ (p : Part). Inside p (length input)) (sym (part_refused pec input InvalidInput e)) (omega arith)
 ]
 
 pub not_tested : NotTested

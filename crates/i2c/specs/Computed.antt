@@ -1,11 +1,11 @@
 -- What is computed, step by step, from the definitions: a frame with and without PEC, what encode answers and leaves in the output, inputs that
 -- are nearly frames, and every answer's number and value. An error in a definition breaks these first. The PEC's value is that of another
 -- implementation, CRC-8/SMBUS of python3-crccheck. The proofs: `proofs/Computed.antt`. Assumes nothing.
-use Rattle.std.specs.Prelude.{ℕ, ◌≡◌, true, false, List, [], ◌∷◌, ◌++◌, replicate}
+use Rattle.std.specs.Prelude.{ℕ, ◌≡◌, true, false, List, [], ◌∷◌, ◌++◌, Ok, Err, replicate}
 use Rattle.checks.specs.Numbers.{answer, done}
 use Rattle.checks.specs.Part.{no_part}
-use Rattle.i2c.specs.declared.decoder.Decoded.TheVariants.{From, InvalidInput}
-use Rattle.i2c.specs.declared.encoder.Encoded.TheVariants.{BadAddress, BadArgument, Done}
+use Rattle.i2c.specs.declared.decoder.DecodeError.TheVariants.{InvalidInput}
+use Rattle.i2c.specs.declared.encoder.EncodeError.TheVariants.{BadAddress, BadArgument}
 use Rattle.i2c.specs.Decode.{decode_answer, decoded_answer, payload_part}
 use Rattle.i2c.specs.Encode.{encode_answer, encode_output, encoded_answer}
 use Rattle.i2c.specs.Frame.{frame}
@@ -38,10 +38,10 @@ Answered = (encode_answer 0x20 0x1d false 5 9 ≡ answer done (9 ∷ [])) × (en
 
 -- the frame is written at the output's start, and the byte beyond it keeps its content; a refusal writes nothing
 abbrev pub OutputWritten : Type 0
-OutputWritten = (encode_output (Done 9) 0x20 0x1d false packet (replicate 10 0xff) ≡ written ++ (0xff ∷ []))
-    × (encode_output (Done 10) 0x20 0x1d true packet (replicate 11 0xff) ≡ written_pec ++ (0xff ∷ []))
-    × (encode_output BadAddress 128 0x1d false packet (replicate 10 0xff) ≡ replicate 10 0xff)
-    × (encode_output BadArgument 0x20 0x1d false packet (replicate 8 0xff) ≡ replicate 8 0xff)
+OutputWritten = (encode_output (Ok 9) 0x20 0x1d false packet (replicate 10 0xff) ≡ written ++ (0xff ∷ []))
+    × (encode_output (Ok 10) 0x20 0x1d true packet (replicate 11 0xff) ≡ written_pec ++ (0xff ∷ []))
+    × (encode_output (Err BadAddress) 128 0x1d false packet (replicate 10 0xff) ≡ replicate 10 0xff)
+    × (encode_output (Err BadArgument) 0x20 0x1d false packet (replicate 8 0xff) ≡ replicate 8 0xff)
 
 -- they are decoded, also with another destination, and with the low bit of the fourth byte not set
 abbrev pub FramesDecoded : Type 0
@@ -56,11 +56,12 @@ NearMisses = (decode_answer true [] ≡ answer invalid_input []) × (decode_answ
     × (decode_answer false (0x3a ∷ 0x0e ∷ 0x01 ∷ 0x41 ∷ []) ≡ answer invalid_input [])
     × (payload_part false (0x3a ∷ 0x0e ∷ 0x01 ∷ 0x41 ∷ []) ≡ no_part)
 
--- what encode answers, in document 01's numbers, with the length written: an `Encoded::number` that tells a bad address by a bad argument's number, or an
--- `Encoded::value` that loses the length, breaks its contract
+-- what encode answers, in document 01's numbers, with the length written: a conversion to `u32` that tells a bad address by a bad argument's number breaks
+-- its contract
 abbrev pub EncodedTold : Type 0
-EncodedTold = ((n : ℕ) → encoded_answer (Done n) ≡ answer 0 (n ∷ [])) × (encoded_answer BadAddress ≡ answer 4 []) × (encoded_answer BadArgument ≡ answer 3 [])
+EncodedTold = ((n : ℕ) → encoded_answer (Ok n) ≡ answer 0 (n ∷ [])) × (encoded_answer (Err BadAddress) ≡ answer 4 [])
+    × (encoded_answer (Err BadArgument) ≡ answer 3 [])
 
--- and decode, with the source address: so does a `Decoded::number` that tells a refused frame by the number of a refused USB header, 7
+-- and decode, with the source address: so does one that tells a refused frame by the number of a refused USB header, 7
 abbrev pub DecodedTold : Type 0
-DecodedTold = ((source : ℕ) → decoded_answer (From source) ≡ answer 0 (source ∷ [])) × (decoded_answer InvalidInput ≡ answer 5 [])
+DecodedTold = ((source : ℕ) → decoded_answer (Ok source) ≡ answer 0 (source ∷ [])) × (decoded_answer (Err InvalidInput) ≡ answer 5 [])

@@ -1,17 +1,21 @@
 -- What decode answers, and the payload as a part of its input (document 01, 'I2C'). The checks stand in document 01's order. Assumes nothing.
-use Rattle.std.specs.Prelude.{ℕ, ◌-◌, ◌/◌, Bool, cond, not, ◌&&◌, List, [], ◌∷◌, eqb, ltb, length, get_or, take}
+use Rattle.std.specs.Prelude.{ℕ, ◌-◌, ◌/◌, Bool, cond, not, ◌&&◌, List, [], ◌∷◌, Result, Ok, Err, eqb, ltb, length, get_or, take}
 use Rattle.checks.specs.Numbers.{Answer, answer, done}
 use Rattle.checks.specs.PacketErrorCode.{pec_of}
 use Rattle.checks.specs.Part.{Part, no_part, part}
-use Rattle.i2c.specs.declared.decoder.Decoded.{Decoded}
-use Rattle.i2c.specs.declared.decoder.Decoded.TheVariants.{From, InvalidInput}
+use Rattle.i2c.specs.declared.decoder.DecodeError.{DecodeError}
+use Rattle.i2c.specs.declared.decoder.DecodeError.TheVariants.{InvalidInput}
 use Rattle.i2c.specs.Frame.{byte_count, command_code, header_size}
 use Rattle.i2c.specs.Numbers.{invalid_input}
 
+-- the number of a refusal
+abbrev pub decode_error_number : DecodeError → ℕ
+decode_error_number InvalidInput = invalid_input
+
 -- the answer in document 01's numbers; the value is the source address
-abbrev pub decoded_answer : Decoded → Answer
-decoded_answer (From source) = answer done (source ∷ [])
-decoded_answer InvalidInput = answer invalid_input []
+abbrev pub decoded_answer : Result ℕ DecodeError → Answer
+decoded_answer (Ok source) = answer done (source ∷ [])
+decoded_answer (Err refused) = answer (decode_error_number refused) []
 
 -- the input without its last byte, which is the PEC
 abbrev pub but_last : List ℕ → List ℕ

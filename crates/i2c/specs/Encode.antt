@@ -1,17 +1,21 @@
 -- What encode answers, and what it leaves in the output (document 01, 'I2C' and 'Numbers given back', with its order). Assumes nothing.
-use Rattle.std.specs.Prelude.{ℕ, ◌+◌, Bool, cond, not, ◌&&◌, List, [], ◌∷◌, leb, ltb}
+use Rattle.std.specs.Prelude.{ℕ, ◌+◌, Bool, cond, not, ◌&&◌, List, [], ◌∷◌, Result, Ok, Err, leb, ltb}
 use Rattle.checks.specs.Numbers.{Answer, answer, done}
 use Rattle.checks.specs.Output.{at_start}
-use Rattle.i2c.specs.declared.encoder.Encoded.{Encoded}
-use Rattle.i2c.specs.declared.encoder.Encoded.TheVariants.{Done, BadAddress, BadArgument}
+use Rattle.i2c.specs.declared.encoder.EncodeError.{EncodeError}
+use Rattle.i2c.specs.declared.encoder.EncodeError.TheVariants.{BadAddress, BadArgument}
 use Rattle.i2c.specs.Frame.{address_most, frame, header_size, payload_most}
 use Rattle.i2c.specs.Numbers.{bad_address, bad_argument}
 
+-- the number of a refusal
+abbrev pub encode_error_number : EncodeError → ℕ
+encode_error_number BadAddress = bad_address
+encode_error_number BadArgument = bad_argument
+
 -- the answer in document 01's numbers; the value is the length written
-abbrev pub encoded_answer : Encoded → Answer
-encoded_answer (Done n) = answer done (n ∷ [])
-encoded_answer BadAddress = answer bad_address []
-encoded_answer BadArgument = answer bad_argument []
+abbrev pub encoded_answer : Result ℕ EncodeError → Answer
+encoded_answer (Ok n) = answer done (n ∷ [])
+encoded_answer (Err refused) = answer (encode_error_number refused) []
 
 -- two addresses of 7 bits
 abbrev pub addresses : ℕ → ℕ → Bool
@@ -30,7 +34,6 @@ encode_answer own dest pec size room =
     (answer done (frame_size pec size ∷ []))))
 
 -- the output after it
-unfoldable pub encode_output : Encoded → ℕ → ℕ → Bool → List ℕ → List ℕ → List ℕ
-encode_output (Done n) own dest pec payload out = at_start (frame own dest pec payload) out
-encode_output BadAddress own dest pec payload out = out
-encode_output BadArgument own dest pec payload out = out
+unfoldable pub encode_output : Result ℕ EncodeError → ℕ → ℕ → Bool → List ℕ → List ℕ → List ℕ
+encode_output (Ok n) own dest pec payload out = at_start (frame own dest pec payload) out
+encode_output (Err refused) own dest pec payload out = out

@@ -1,11 +1,10 @@
 -- What is proved of the frame (`proofs/FrameLaws.antt`), of decode (`proofs/Received.antt`), and of encode and decode together
 -- (`proofs/RoundTrip.antt`). Assumes nothing.
-use Rattle.std.specs.Prelude.{ℕ, ◌/◌, ◌≤◌, ◌≡◌, Bool, true, false, List, [], ◌∷◌, ◌++◌, length, take}
+use Rattle.std.specs.Prelude.{ℕ, ◌/◌, ◌≤◌, ◌≡◌, Bool, true, false, List, [], ◌∷◌, ◌++◌, Ok, length, take}
 use Rattle.checks.specs.Laws.{Bytes}
 use Rattle.checks.specs.Numbers.{answer, done}
 use Rattle.checks.specs.PacketErrorCode.{pec_of}
 use Rattle.checks.specs.Part.{Inside, bytes_of}
-use Rattle.i2c.specs.declared.encoder.Encoded.TheVariants.{Done}
 use Rattle.i2c.specs.Decode.{decode_answer, payload_part}
 use Rattle.i2c.specs.Encode.{encode_answer, encode_output}
 use Rattle.i2c.specs.Frame.{closed, frame, headed, with_pec}
@@ -31,7 +30,7 @@ Gives pec bytes source payload =
 abbrev pub RoundTrip : Type 0
 RoundTrip = (own dest n : ℕ) (pec : Bool) (payload out : List ℕ)
     → encode_answer own dest pec (length payload) (length out) ≡ answer done (n ∷ [])
-    → Gives pec (take n (encode_output (Done n) own dest pec payload out)) own payload
+    → Gives pec (take n (encode_output (Ok n) own dest pec payload out)) own payload
 
 -- the payload lies within the input, whatever the input is
 abbrev pub PayloadInside : Type 0

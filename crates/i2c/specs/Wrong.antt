@@ -1,10 +1,9 @@
 -- Wrong encoders and decoders. Of each, an input is named at which it does not give what the definitions that the contract cites give there, so the contract
 -- refuses it. The proofs: `proofs/Wrong.antt`. Assumes nothing.
-use Rattle.std.specs.Prelude.{ℕ, ◌+◌, Bool, true, false, cond, List, [], ◌∷◌, ◌++◌, ◌≢◌, ltb, length, replicate, set}
+use Rattle.std.specs.Prelude.{ℕ, ◌+◌, Bool, true, false, cond, List, [], ◌∷◌, ◌++◌, Ok, ◌≢◌, ltb, length, replicate, set}
 use Rattle.checks.specs.Numbers.{Answer, answer}
 use Rattle.checks.specs.Output.{at_start}
 use Rattle.checks.specs.Part.{part}
-use Rattle.i2c.specs.declared.encoder.Encoded.TheVariants.{Done}
 use Rattle.i2c.specs.Computed.{packet, written}
 use Rattle.i2c.specs.Decode.{body_answer, but_last, decode_answer, payload_part}
 use Rattle.i2c.specs.Encode.{encode_answer, encode_output, frame_size}
@@ -27,11 +26,11 @@ pec_counted own dest payload = with_pec (set (plain own dest payload) 2 (length 
 
 -- whatever the output held
 abbrev pub PecCountedFails : Type 0
-PecCountedFails = (out : List ℕ) → encode_output (Done 10) 0x20 0x1d true packet out ≢ at_start (pec_counted 0x20 0x1d packet) out
+PecCountedFails = (out : List ℕ) → encode_output (Ok 10) 0x20 0x1d true packet out ≢ at_start (pec_counted 0x20 0x1d packet) out
 
 -- it writes nothing, and answers done
 abbrev pub NothingWrittenFails : Type 0
-NothingWrittenFails = encode_output (Done 9) 0x20 0x1d false packet (replicate 9 0xff) ≢ replicate 9 0xff
+NothingWrittenFails = encode_output (Ok 9) 0x20 0x1d false packet (replicate 9 0xff) ≢ replicate 9 0xff
 
 -- ---- decode
 

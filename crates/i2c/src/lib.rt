@@ -5,5 +5,5 @@ mod decoder;
 mod encoder;
 mod wire;
 
-pub use decoder::{Decoded, decode, payload};
-pub use encoder::{Encoded, encode};
+pub use decoder::{DecodeError, decode, payload};
+pub use encoder::{EncodeError, encode};

@@ -1,6 +1,6 @@
 -- A packet is handed out only where the last bytes fed are its frame: in FrameEnd the state's trace has the frame up to its check bytes, the
 -- agreeing check says that these are the packet's, and the flag that hands out closes it. Assumes nothing.
-use Prim.Native.Nat.{ℕ, suc, ◌+◌, ◌*◌, ◌/◌, ◌%◌, ◌<◌, ◌≤◌}
+use Prim.Native.Nat.{ℕ, suc, ◌+◌, ◌*◌, ◌≤◌}
 use mathlib.Core.Path.{◌≡◌, ◌∙◌, ap, ap₂, refl, sym, subst, subst₂}
 use mathlib.Core.Bool.{true}
 use mathlib.Core.List.{List, [], ◌∷◌, ◌++◌, append_assoc, append-nil}
@@ -13,28 +13,21 @@ use Rattle.checks.specs.FrameCheck.{frame_check}
 use Rattle.checks.specs.Laws.{Bytes}
 use Rattle.checks.specs.Register.{bit_step, bit_steps, byte_step, check_from}
 use Rattle.checks.proofs.Choice.{by_cond, left, right}
-use Rattle.checks.proofs.Bytes.{bytes_back, bytes_front, bytes_append, bytes_each}
+use Rattle.checks.proofs.Bytes.{bytes_back, bytes_front, bytes_each}
 use Rattle.serial.specs.declared.receiver.Position.{Position}
 use Rattle.serial.specs.declared.receiver.Position.TheVariants.{FrameSearch, SerialRevision, ByteCount, Data, DataEscaped, Check, FrameEnd}
 use Rattle.serial.specs.declared.receiver.Receiver.{Receiver}
-use Rattle.serial.specs.declared.receiver.Outcome.{Outcome}
-use Rattle.serial.specs.declared.receiver.Outcome.TheVariants.{Nothing, Packet, Inconsistent}
+use Rattle.std.proofs.Common.{Some, None, Ok, Err}
 use Rattle.serial.specs.declared.receiver.Stepped.{Stepped}
 use Rattle.framing.specs.Computed.{ending}
 use Rattle.framing.specs.Frame.{flag, revision, escaped_all, covered, check_bytes, behind_flag, escaped, frame}
-use Rattle.serial.specs.Receiver.{agrees_of, fresh_of, hands_out, row_of, step_of, consistent_of, fits_at}
+use Rattle.serial.specs.Receiver.{Outcome, agrees_of, fresh_of, hands_out, row_of, step_of, consistent_of, fits_at}
 use Rattle.serial.specs.Run.{emit, outs_by, outs_of, packet_in, run_by, run_of}
 use Rattle.line.specs.Converse.{AllAsSent, Each, OnlyAsSent, SentAs, SentAt, StreamAsSent, FlagNotNeeded, flagless}
-use Rattle.framing.proofs.FrameLaws.{frame_bytes}
 use Rattle.serial.proofs.Consistent.{FitsAt, facts, row-of}
 use Rattle.serial.proofs.Keeps.{reachable_consistent}
 use Rattle.serial.proofs.Run.{run_append}
-use Rattle.line.proofs.Ending.{ending_sent}
-use Rattle.line.proofs.Trace.{Trace, TraceAt, Within, heard_more, row_traced, stored_length}
-
--- two bytes and the number that they make
-two_bytes : (n high low : ℕ) → high < 256 → low < 256 → n ≡ high * 256 + low → (high ≡ n / 256) × (low ≡ n % 256)
-two_bytes n high low h l e = (omega arith, omega arith)
+use Rattle.line.proofs.Trace.{Trace, TraceAt, Within, row_traced, stored_length}
 
 -- ---- the closing flag
 
@@ -49,15 +42,11 @@ module _ (h : List ℕ) (s : Receiver) (high low : ℕ) (w : Within h s (high �
 
   stored_parts : s.stored ≡ head ++ rest
   unfolding head rest
-  stored_parts =
-      sym (take-append-drop s.len s.stored) ∙ ap (λ (l : List ℕ). l ++ drop s.len s.stored) w.read.holds
-      ∙ append_assoc head (high ∷ low ∷ []) (drop s.len s.stored)
+  stored_parts = sym (take-append-drop s.len s.stored) ∙ rw (w.read.holds, append_assoc)
 
   covered_stored : take (s.count + 2) s.stored ≡ covered w.packet
   unfolding head
-  covered_stored =
-      ap (take (s.count + 2)) stored_parts ∙ take_at head rest (s.count + 2) (omega arith)
-      ∙ ap (λ (n : ℕ). revision ∷ n ∷ w.packet) (sym whole)
+  covered_stored = rw (stored_parts, whole) (take_at head rest (s.count + 2) (omega arith))
 
   check_stored : (i place : ℕ) → place ≡ s.count + 2 + i → get_or s.stored place 0 ≡ get_or rest i 0
   unfolding head
@@ -67,7 +56,7 @@ module _ (h : List ℕ) (s : Receiver) (high low : ℕ) (w : Within h s (high �
 
   packet_stored : packet_in s.count s ≡ w.packet
   unfolding head
-  packet_stored = ap (λ (l : List ℕ). take s.count (drop 2 l)) stored_parts ∙ take_at w.packet rest s.count whole
+  packet_stored = rw stored_parts (take_at w.packet rest s.count whole)
 
   -- where the check agrees, the two bytes are the packet's check bytes
   agreed : agrees_of s ≡ true → frame_check (covered w.packet) ≡ high * 256 + low
@@ -84,22 +73,15 @@ module _ (h : List ℕ) (s : Receiver) (high low : ℕ) (w : Within h s (high �
   checks_agreed : Bytes h → agrees_of s ≡ true → high ∷ low ∷ [] ≡ check_bytes w.packet
   checks_agreed bytes e =
       let ends = ends_bytes bytes in
-      let both = two_bytes (frame_check (covered w.packet)) high low (ends 0) (ends 1) (agreed e) in
-      ap₂ (λ (x y : ℕ). x ∷ y ∷ []) both.0 both.1
+      ap₂ (λ (x y : ℕ). x ∷ y ∷ []) (omega (arith, ends 0, ends 1, agreed e)) (omega (arith, ends 0, ends 1, agreed e))
 
   -- a flag closes it
   closed : (b : ℕ) → Bytes h → b ≡ flag → agrees_of s ≡ true → SentAs (h ++ (b ∷ [])) w.packet
-  closed b bytes e agrees =
-      let line = escaped_all w.packet in
-      let same : line ++ (high ∷ low ∷ []) ++ (b ∷ []) ≡ line ++ (check_bytes w.packet ++ (flag ∷ [])) =
-      append_assoc line (high ∷ low ∷ []) (b ∷ []) ∙ ap₂ (λ (l : List ℕ) (c : ℕ). line ++ (l ++ (c ∷ []))) (checks_agreed bytes agrees) e in
-      record {
-        before = w.read.before;
-        parts =
-            heard_more h w.read.before (revision ∷ s.count ∷ (line ++ (high ∷ low ∷ []))) b w.read.heard
-            ∙ ap₂ (λ (n : ℕ) (l : List ℕ). w.read.before ++ (revision ∷ n ∷ l)) (sym whole) same;
-        opened = w.read.opened;
-      }
+  closed b bytes e agrees = record {
+    before = w.read.before;
+    parts = simp (w.read.heard, append_assoc) (cc (checks_agreed bytes agrees));
+    opened = w.read.opened;
+  }
 
 -- the same of the trace's check bytes, which are two
 flag_sent : (h : List ℕ) (b : ℕ) (s : Receiver) (checks : List ℕ) (w : Within h s checks checks) → Bytes h → length w.packet ≡ s.count → length checks ≡ 2
@@ -112,29 +94,25 @@ flag_sent h b s (high ∷ low ∷ c ∷ more) w bytes whole two e agrees = absur
 
 -- ---- a step that hands out a packet
 
--- a quiet step hands nothing out
-quiet_not : {C : Type 0} (n : ℕ) → Nothing ≡ Packet n → C
-quiet_not n e = let z : ◌≡◌ {A = ℕ} 0 1 = cc in absurd (omega arith)
-
 -- only the row of FrameEnd hands out, on a flag and where the check agrees
 row_sent : (h : List ℕ) (b n : ℕ) (s : Receiver) → Bytes h → length s.stored ≡ 259 → s.len ≤ 259
-    → (p : Position) → FitsAt p s.count s.len s.stored → TraceAt p h s → (row_of p b s).outcome ≡ Packet n
+    → (p : Position) → FitsAt p s.count s.len s.stored → TraceAt p h s → (row_of p b s).outcome ≡ Ok (Some n)
     → SentAs (h ++ (b ∷ [])) (packet_in n (row_of p b s).state)
 unfolding row_of
-row_sent h b n s bytes sized room FrameSearch fits t e = quiet_not n e
-row_sent h b n s bytes sized room SerialRevision fits t e = quiet_not n e
-row_sent h b n s bytes sized room ByteCount fits t e = quiet_not n e
-row_sent h b n s bytes sized room Data fits t e = quiet_not n e
-row_sent h b n s bytes sized room DataEscaped fits t e = quiet_not n e
-row_sent h b n s bytes sized room Check fits t e = quiet_not n e
+row_sent h b n s bytes sized room FrameSearch fits t e = cc
+row_sent h b n s bytes sized room SerialRevision fits t e = cc
+row_sent h b n s bytes sized room ByteCount fits t e = cc
+row_sent h b n s bytes sized room Data fits t e = cc
+row_sent h b n s bytes sized room DataEscaped fits t e = cc
+row_sent h b n s bytes sized room Check fits t e = cc
 row_sent h b n s bytes sized room FrameEnd fits t e =
-    by_cond (λ (o : Stepped). o.outcome ≡ Packet n → SentAs (h ++ (b ∷ [])) (packet_in n o.state))
+    by_cond (λ (o : Stepped). o.outcome ≡ Ok (Some n) → SentAs (h ++ (b ∷ [])) (packet_in n o.state))
     (hands_out b s) _ _
     (λ both e'. let same : s.count ≡ n = cc in
     subst (λ (k : ℕ). SentAs (h ++ (b ∷ [])) (packet_in k s)) same
     (flag_sent h b s t.checks t.within bytes t.whole (omega (arith, stored_length s t.within (omega arith), t.whole, fits.1))
     (eqb-true b flag (left (eqb b flag) (agrees_of s) both)) (right (eqb b flag) (agrees_of s) both)))
-    (λ both e'. quiet_not n e') e
+    (λ both e'. cc) e
 
 -- ---- from fresh
 
@@ -157,27 +135,24 @@ told_from (b ∷ rest) h bytes t =
     subst Told (append_snoc h b rest)
     (told_from rest (h ++ (b ∷ [])) (subst Bytes (sym (append_snoc h b rest)) bytes) (step_told h b (bytes_front h (b ∷ rest) bytes) t))
 
-told : (h : List ℕ) → Bytes h → Told h
-unfolding run_by
-told h bytes = told_from h [] bytes tt
-
 pub only_as_sent : OnlyAsSent
+unfolding run_by
 only_as_sent h b n bytes e =
     let s = run_of fresh_of h in
     let c = reachable_consistent h bytes in
     let f = facts s c.fits in
     let row = row-of s b c.fits in
     subst (λ (o : Stepped). SentAs (h ++ (b ∷ [])) (packet_in n o.state)) (sym row)
-    (row_sent h b n s bytes c.sized f.len_most s.position f.here (told h bytes) (ap (λ (o : Stepped). o.outcome) (sym row) ∙ e))
+    (row_sent h b n s bytes c.sized f.len_most s.position f.here (told_from h [] bytes tt) (ap (λ (o : Stepped). o.outcome) (sym row) ∙ e))
 
 -- ---- a whole stream
 
 -- what holds of a packet that a step hands out at place i, and of each that follows, holds of each
 pub emit_each : (so : ℕ → List ℕ → Type 0) (o : Outcome) (s : Receiver) (i : ℕ) (outs : List (ℕ × List ℕ))
-    → ((n : ℕ) → o ≡ Packet n → so i (packet_in n s)) → Each so outs → Each so (emit o s i outs)
-emit_each so Nothing s i outs here all = all
-emit_each so (Packet n) s i outs here all = (here n refl, all)
-emit_each so Inconsistent s i outs here all = all
+    → ((n : ℕ) → o ≡ Ok (Some n) → so i (packet_in n s)) → Each so outs → Each so (emit o s i outs)
+emit_each so (Ok None) s i outs here all = all
+emit_each so (Ok (Some n)) s i outs here all = (here n refl, all)
+emit_each so (Err e) s i outs here all = all
 
 -- behind the bytes h, each packet that the rest hands out is sent as it is
 sent_from : (rest h : List ℕ) → Bytes (h ++ rest) → AllAsSent (h ++ rest) (outs_of (length h) (run_of fresh_of h) rest)
@@ -201,17 +176,6 @@ stream_as_sent stream bytes = sent_from stream [] bytes
 
 -- ---- without a flag before the revision
 
-flagless_bytes : Bytes flagless
-unfolding frame
-flagless_bytes =
-    bytes_append (take 7 flagless) (behind_flag (ending 0x00))
-    (bytes_each (take 7 flagless) (omega arith))
-    (bytes_back (flag ∷ []) (behind_flag (ending 0x00)) (frame_bytes (ending 0x00) (ending_sent 0x00 (omega arith))))
-
-flagless_heard : outs_of 0 fresh_of flagless ≡ (16, ending 0x00) ∷ []
-unfolding outs_by step_of consistent_of fits_at row_of agrees_of escaped_all escaped check_from byte_step bit_steps bit_step
-flagless_heard = refl
-
 -- the byte before the revision is the seventh
 flagless_unframed : (before : List ℕ) → flagless ≡ before ++ frame (ending 0x00) → ⊥
 unfolding frame escaped_all escaped
@@ -221,4 +185,5 @@ flagless_unframed before e =
     omega (arith, seventh)
 
 pub flag_not_needed : FlagNotNeeded
-flag_not_needed = (flagless_bytes, flagless_heard, flagless_unframed)
+unfolding outs_by step_of consistent_of fits_at row_of agrees_of escaped_all escaped check_from byte_step bit_steps bit_step
+flag_not_needed = (bytes_each flagless (omega arith), refl, flagless_unframed)

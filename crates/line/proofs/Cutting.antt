@@ -1,17 +1,17 @@
 -- A stream in any cutting is one pass: each call's steps are those of a pass over the bytes that it took (`Steps` of `serial`), and a pass goes on
 -- where the last one ended. Assumes nothing.
-use Prim.Native.Nat.{ℕ, suc, ◌+◌, ◌-◌, ◌≤◌}
-use mathlib.Core.Path.{◌∙◌, ap, refl, sym}
-use mathlib.Core.List.{List, [], ◌∷◌, ◌++◌, append_assoc, append-nil}
+use Prim.Native.Nat.{ℕ, suc, ◌+◌, ◌≤◌}
+use mathlib.Core.Path.{◌∙◌, refl, sym}
+use mathlib.Core.List.{List, [], ◌∷◌, append_assoc, append-nil}
 use native.Mathlib.Omega.{arith}
 use lib.ListN.{length, drop, length-drop}
 use Rattle.checks.proofs.Bytes.{bytes_drop}
 use Rattle.serial.specs.declared.receiver.Receiver.{Receiver}
 use Rattle.serial.specs.Consistency.{Consistent}
-use Rattle.serial.specs.Run.{outs_by, outs_of, run_by, run_of}
-use Rattle.serial.specs.Steps.{Call, called, handed}
+use Rattle.serial.specs.Run.{outs_by, run_by}
+use Rattle.serial.specs.Steps.{Call, called}
 use Rattle.serial.proofs.Steps.{goes_on, kept, state_goes_on, takes_one}
-use Rattle.line.specs.Cutting.{AnyCutting, NothingLeft, WholeCutting, Willing, fed_by, fed_of}
+use Rattle.line.specs.Cutting.{AnyCutting, NothingLeft, WholeCutting, Willing, fed_by}
 
 pub any_cutting : AnyCutting
 unfolding fed_by
@@ -19,20 +19,13 @@ any_cutting [] i s stream fits h = record { packets = refl; state = refl }
 any_cutting (c ∷ cs) i s stream fits h =
     let t = called c s stream in
     let more = any_cutting cs (i + t.taken) t.state (drop t.taken stream) (kept c s stream fits h) (bytes_drop t.taken stream h) in
-    let f = fed_of cs (i + t.taken) t.state (drop t.taken stream) in
-    let first = handed t.reason t.state (i + t.taken - 1) [] in
-    record {
-      packets = goes_on c s stream fits i ∙ ap (λ (outs : List (ℕ × List ℕ)). first ++ outs) more.packets
-          ∙ sym (append_assoc first f.packets (outs_of f.place f.state f.rest));
-      state = state_goes_on c s stream fits ∙ more.state;
-    }
+    record { packets = goes_on c s stream fits i ∙ rw (more.packets, append_assoc) refl; state = state_goes_on c s stream fits ∙ more.state }
 
 pub whole_cutting : WholeCutting
 unfolding outs_by run_by
 whole_cutting calls i s stream fits h e =
-    let f = fed_of calls i s stream in
     let p = any_cutting calls i s stream fits h in
-    (sym (p.packets ∙ ap (λ (rest : List ℕ). f.packets ++ outs_of f.place f.state rest) e ∙ append-nil f.packets), sym (p.state ∙ ap (run_of f.state) e))
+    (sym (p.packets ∙ rw (e, append-nil)), sym (p.state ∙ rw e))
 
 -- ---- willing calls
 

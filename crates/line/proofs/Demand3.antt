@@ -2,7 +2,7 @@
 -- FrameEnd one. From there `proofs/FrameHeard.antt` has the frames, by the table, which is what a consistent state runs by. Two flags fail, as
 -- case N shows: both are taken for check bytes, and FrameEnd takes the frame's opening flag. Assumes nothing.
 use Prim.Native.Nat.{ℕ, zero, suc, ◌+◌, ◌≤◌}
-use mathlib.Core.Path.{◌≡◌, ◌∙◌, ap, refl, subst, sym}
+use mathlib.Core.Path.{◌≡◌, ◌∙◌, refl, subst, sym}
 use mathlib.Core.Bool.{Bool, cond}
 use mathlib.Core.Logic.{◌≢◌, inl, inr}
 use mathlib.Core.List.{List, [], ◌∷◌, ◌++◌}
@@ -116,8 +116,7 @@ pub not_heard : (step : Step) (h : List ℕ) (n : ℕ) (p : List ℕ) → Bytes 
     → outs_by step 0 (run_by step fresh_of (h ++ flags n)) (frames (p ∷ [])) ≡ [] → HearsAfterBy step placed n → ⊥
 unfolding placed
 not_heard step h n p bytes sent silent all =
-    let wrong : ◌≡◌ {A = ℕ} 0 1 = ap length (sym silent ∙ all h bytes 0 (p ∷ []) (sent, tt)) in
-    omega arith
+    cc (silent, all h bytes 0 (p ∷ []) (sent, tt))
 
 -- case A's packet behind case N's losing history
 none_heard : outs_of 0 (run_of fresh_of (losing ++ flags 2)) (frames (ending flag ∷ [])) ≡ []

@@ -1,19 +1,20 @@
 -- One frame, by the table: from where the next flag opens a frame, a frame hands out its packet on its last byte and nothing before, since
 -- each of the packet's bytes is stored behind the revision and the count, and the check bytes are the check of what is stored.
 -- Assumes nothing.
-use Prim.Native.Nat.{ℕ, suc, ◌+◌, ◌-◌, ◌*◌, ◌/◌, ◌%◌, ◌≤◌, ◌<◌}
+use Prim.Native.Nat.{ℕ, suc, ◌+◌, ◌-◌, ◌*◌, ◌/◌, ◌%◌, ◌≤◌}
 use mathlib.Core.Path.{◌≡◌, ◌∙◌, ap, refl, subst, sym}
 use mathlib.Core.Logic.{◌≢◌, ⊎_elim, inl}
-use mathlib.Core.Bool.{Bool, true, false, cond}
+use mathlib.Core.Bool.{true, false, cond}
 use mathlib.Core.List.{List, [], ◌∷◌, ◌++◌, append_assoc}
-use native.Mathlib.Nat.{div-add-mod', add-zero, add_assoc}
-use native.Mathlib.Numerals.{add-one, add-two}
+use native.Mathlib.Nat.{div-add-mod', add-zero, add_assoc, add_comm}
+use native.Mathlib.Numerals.{add-one}
 use native.Mathlib.Omega.{arith}
 use lib.Dec.{eqb}
 use lib.ListN.{length, get_or, take, drop, set, length-append, length-set}
-use lib.Seq.{take-suc-set, take-set-le, get_or-set_same, get_or-set_other, take-nil}
+use lib.Seq.{take-suc-set, take-set-le, get_or-set_same, get_or-set_other}
 use borrow.Author.Tests.{eqb-true, eq-eqb, ne_eqb}
 use Rattle.checks.specs.FrameCheck.{frame_check}
+use Rattle.checks.proofs.Choice.{by_cond}
 use Rattle.serial.specs.declared.receiver.Position.{Position}
 use Rattle.serial.specs.declared.receiver.Position.TheVariants.{FrameSearch, SerialRevision, Data, Check, FrameEnd}
 use Rattle.serial.specs.declared.receiver.Receiver.{Receiver}
@@ -22,6 +23,7 @@ use Rattle.serial.specs.Receiver.{agrees_of, begun, changed, move_to, row_of}
 use Rattle.serial.specs.Run.{packet_in}
 use Rattle.line.specs.Demand3.{placed, Open}
 use Rattle.serial.proofs.Table.{table_outs}
+use Rattle.std.proofs.lemmas.List.{drop-take}
 
 -- a state moved to the position that it has is itself: said once, since it rests on a state being known by its fields
 pub at_own : (s : Receiver) (q : Position) → s.position ≡ q → move_to q s ≡ s
@@ -42,62 +44,39 @@ record Stored (s : Receiver) (i n l : ℕ) (xs q rest : List ℕ) : Type 0 where
 
 module _ (s : Receiver) where
   -- a packet's byte, escaped or not, is stored as it is
-  byte_outs : (i n l : ℕ) (xs : List ℕ) (b : ℕ) (rest : List ℕ)
-      → table_outs i (changed Data n l xs s) (escaped b ++ rest)
-      ≡ table_outs (i + length (escaped b)) (changed (behind n l) n (l + 1) (set xs l b) s) rest
-  unfolding escaped table_outs row_of
-  byte_outs i n l xs b rest = go (eqb b flag) refl (eqb b escape) refl
-    where
-      go : (t : Bool) → eqb b flag ≡ t → (u : Bool) → eqb b escape ≡ u
-          → table_outs i (changed Data n l xs s) (escaped b ++ rest)
-          ≡ table_outs (i + length (escaped b)) (changed (behind n l) n (l + 1) (set xs l b) s) rest
-      go true e u e' = rw (eqb-true b flag e, add_assoc i 1 1)
-      go false e true e' = rw (eqb-true b escape e', add_assoc i 1 1)
-      go false e false e' = simp (e, e')
-
   first_outs : (i n l : ℕ) (xs : List ℕ) (b : ℕ) (q rest : List ℕ)
       → table_outs i (changed Data n l xs s) (escaped_all (b ∷ q) ++ rest)
       ≡ table_outs (i + length (escaped b)) (changed (behind n l) n (l + 1) (set xs l b) s) (escaped_all q ++ rest)
-  unfolding escaped_all
-  first_outs i n l xs b q rest = rw append_assoc (byte_outs i n l xs b (escaped_all q ++ rest))
-
-  stored_last : (i n l : ℕ) (xs : List ℕ) (b : ℕ) (rest : List ℕ) → l + 1 ≡ n + 2 → n ≤ 255 → length xs ≡ 259
-      → Stored s i n l xs (b ∷ []) rest
-  unfolding escaped_all
-  stored_last i n l xs b rest there few sized = record {
-    now = set xs l b;
-    size = length-set xs l b ∙ sized;
-    holds = rw (← there, add-one) (take-suc-set xs l b (omega arith));
-    same = first_outs i n l xs b [] rest ∙ rw (eq-eqb (l + 1) (n + 2) there, there, length-append, add-zero);
-  }
-
-  stored_more : (i n l : ℕ) (xs : List ℕ) (b : ℕ) (q rest : List ℕ) → l + 1 ≢ n + 2 → l < n + 2 → n ≤ 255 → length xs ≡ 259
-      → Stored s (i + length (escaped b)) n (l + 1) (set xs l b) q rest → Stored s i n l xs (b ∷ q) rest
-  unfolding escaped_all
-  stored_more i n l xs b q rest more below few sized r = record {
-    now = r.now;
-    size = r.size;
-    holds = r.holds ∙ rw (add-one, take-suc-set xs l b (omega arith)) (append_assoc (take l xs) (b ∷ []) q);
-    same = first_outs i n l xs b q rest ∙ rw (ne_eqb (l + 1) (n + 2) more, length-append, ← add_assoc) r.same;
-  }
+  unfolding escaped escaped_all table_outs row_of
+  first_outs i n l xs b q rest =
+      let P : List ℕ → Type 0 = λ line. table_outs i (changed Data n l xs s) (line ++ escaped_all q ++ rest)
+      ≡ table_outs (i + length line) (changed (behind n l) n (l + 1) (set xs l b) s) (escaped_all q ++ rest) in
+      by_cond P (eqb b flag) _ _ (λ e. rw (eqb-true b flag e, add_assoc i 1 1))
+      (λ e. by_cond P (eqb b escape) _ _ (λ e'. rw (eqb-true b escape e', add_assoc i 1 1)) (λ e'. simp (e, e')))
 
   all_stored : (q : List ℕ) (i n l : ℕ) (xs rest : List ℕ) → 1 ≤ length q → l + length q ≡ n + 2 → n ≤ 255 → length xs ≡ 259
       → Stored s i n l xs q rest
+  unfolding escaped_all
   all_stored [] i n l xs rest some fills few sized = absurd (omega arith)
-  all_stored (b ∷ []) i n l xs rest some fills few sized = stored_last i n l xs b rest fills few sized
+  all_stored (b ∷ []) i n l xs rest some fills few sized =
+      let there : l + 1 ≡ n + 2 = fills in
+      record {
+        now = set xs l b;
+        size = length-set xs l b ∙ sized;
+        holds = rw (← there, add-one) (take-suc-set xs l b (omega arith));
+        same = first_outs i n l xs b [] rest ∙ rw (eq-eqb (l + 1) (n + 2) there, there, length-append, add-zero);
+      }
   all_stored (b ∷ c ∷ cs) i n l xs rest some fills few sized =
-      stored_more i n l xs b (c ∷ cs) rest (omega arith) (omega arith) few sized
-      (all_stored (c ∷ cs) (i + length (escaped b)) n (l + 1) (set xs l b) rest (omega arith) (omega arith) few (length-set xs l b ∙ sized))
+      let more : l + 1 ≢ n + 2 = omega arith in
+      let r = all_stored (c ∷ cs) (i + length (escaped b)) n (l + 1) (set xs l b) rest (omega arith) (omega arith) few (length-set xs l b ∙ sized) in
+      record {
+        now = r.now;
+        size = r.size;
+        holds = r.holds ∙ rw (add-one, take-suc-set xs l b (omega arith)) (append_assoc (take l xs) (b ∷ []) (c ∷ cs));
+        same = first_outs i n l xs b (c ∷ cs) rest ∙ rw (ne_eqb (l + 1) (n + 2) more, length-append, ← add_assoc) r.same;
+      }
 
 -- ---- the check bytes and the closing flag
-
-take_behind_two : (n : ℕ) (xs : List ℕ) → take n (drop 2 xs) ≡ drop 2 (take (n + 2) xs)
-take_behind_two n xs = rw add-two (go xs)
-  where
-    go : (xs : List ℕ) → take n (drop 2 xs) ≡ drop 2 (take (suc (suc n)) xs)
-    go [] = take-nil n
-    go (x ∷ []) = take-nil n
-    go (x ∷ y ∷ r) = refl
 
 abbrev check_of : List ℕ → ℕ
 check_of p = frame_check (covered p)
@@ -112,12 +91,6 @@ both_stored p xs = set (high_stored p xs) (length p + 2 + 1) (check_of p % 256)
 -- the state behind both, in FrameEnd, and behind the closing flag
 abbrev checked : Position → List ℕ → List ℕ → Receiver → Receiver
 checked q p xs s = changed q (length p) (length p + 2 + 1 + 1) (both_stored p xs) s
-
-size_high : (p xs : List ℕ) → length xs ≡ 259 → length (high_stored p xs) ≡ 259
-size_high p xs sized = length-set xs (length p + 2) (check_of p / 256) ∙ sized
-
-size_both : (p xs : List ℕ) → length xs ≡ 259 → length (both_stored p xs) ≡ 259
-size_both p xs sized = length-set (high_stored p xs) (length p + 2 + 1) (check_of p % 256) ∙ size_high p xs sized
 
 module _ (s : Receiver) (p xs : List ℕ) (few : length p ≤ 255) (sized : length xs ≡ 259) (holds : take (length p + 2) xs ≡ covered p) where
   before : take (length p + 2) (both_stored p xs) ≡ covered p
@@ -134,7 +107,7 @@ module _ (s : Receiver) (p xs : List ℕ) (few : length p ≤ 255) (sized : leng
   low : get_or (both_stored p xs) (length p + 3) 0 ≡ check_of p % 256
   low =
       let same : length p + 3 ≡ length p + 2 + 1 = omega arith in
-      rw same (get_or-set_same (high_stored p xs) (length p + 2 + 1) (check_of p % 256) 0 (omega (arith, size_high p xs sized)))
+      rw same (get_or-set_same (high_stored p xs) (length p + 2 + 1) (check_of p % 256) 0 (omega (arith, length-set xs (length p + 2) (check_of p / 256))))
 
   agrees : agrees_of (checked FrameEnd p xs s) ≡ true
   unfolding agrees_of
@@ -142,7 +115,7 @@ module _ (s : Receiver) (p xs : List ℕ) (few : length p ≤ 255) (sized : leng
       (rw (high, low, before) (sym (div-add-mod' (check_of p) 256)))
 
   packet : packet_in (length p) (checked FrameSearch p xs s) ≡ p
-  packet = take_behind_two (length p) (both_stored p xs) ∙ ap (λ (ys : List ℕ). drop 2 ys) before
+  packet = rw (← drop-take 2 (length p) (both_stored p xs), add_comm 2 (length p)) (ap (drop 2) before)
 
   end_outs : (i : ℕ) (rest : List ℕ)
       → table_outs i (changed Check (length p) (length p + 2) xs s) (check_bytes p ++ (flag ∷ rest))
@@ -162,46 +135,37 @@ record Gives (i : ℕ) (s : Receiver) (xs p rest : List ℕ) : Type 0 where
   size : length left.stored ≡ 259
   gives : table_outs i s (xs ++ rest) ≡ (i + length xs - 1, p) ∷ table_outs (i + length xs) left rest
 
-head_stored : (n : ℕ) (xs : List ℕ) → 2 ≤ length xs → take 2 (set (set xs 0 revision) 1 n) ≡ revision ∷ n ∷ []
-head_stored n [] h = absurd (omega arith)
-head_stored n (x ∷ []) h = absurd (omega arith)
-head_stored n (x ∷ y ∷ r) h = refl
-
 -- what stands behind the packet
 abbrev behind_packet : List ℕ → List ℕ
 behind_packet p = check_bytes p ++ (flag ∷ [])
 
-module _ (s : Receiver) (i n l : ℕ) (xs p rest : List ℕ) (some : 1 ≤ length p) (few : length p ≤ 255) (sized : length xs ≡ 259)
-    (r : Stored s (i + 1 + 1) (length p) 2 (set (set xs 0 revision) 1 (length p)) p (behind_packet p ++ rest)) where
-  whole : take (length p + 2) r.now ≡ covered p
-  whole = r.holds ∙ ap (λ (ys : List ℕ). ys ++ p) (head_stored (length p) xs (omega arith))
+module _ (s : Receiver) (i n l : ℕ) (xs p rest : List ℕ) (some : 1 ≤ length p) (few : length p ≤ 255) (sized : length xs ≡ 259) where
+  stored : Stored s (i + 1 + 1) (length p) 2 (set (set xs 0 revision) 1 (length p)) p (behind_packet p ++ rest)
+  stored =
+      all_stored s p (i + 1 + 1) (length p) 2 (set (set xs 0 revision) 1 (length p)) (behind_packet p ++ rest) some (omega arith) few (simp length-set sized)
+
+  whole : take (length p + 2) stored.now ≡ covered p
+  whole = stored.holds ∙ rw (take-suc-set (set xs 0 revision) 1 (length p) (omega (arith, length-set xs 0 revision)), take-suc-set xs 0 revision (omega arith)) refl
 
   behind_outs : table_outs i (changed SerialRevision n l xs s) (behind_flag p ++ rest)
-      ≡ (i + 1 + 1 + length (escaped_all p) + 2, p) ∷ table_outs (i + 1 + 1 + length (escaped_all p) + 3) (checked FrameSearch p r.now s) rest
+      ≡ (i + 1 + 1 + length (escaped_all p) + 2, p) ∷ table_outs (i + 1 + 1 + length (escaped_all p) + 3) (checked FrameSearch p stored.now s) rest
   unfolding table_outs row_of
   behind_outs =
       let counts : eqb (length p) 0 ≡ false = ne_eqb (length p) 0 (omega arith) in
       rw (counts, append_assoc (escaped_all p) (behind_packet p) rest)
-      (r.same ∙ end_outs s p r.now few r.size whole (i + 1 + 1 + length (escaped_all p)) rest)
+      (stored.same ∙ end_outs s p stored.now few stored.size whole (i + 1 + 1 + length (escaped_all p)) rest)
 
-  behind_gives : Gives i (changed SerialRevision n l xs s) (behind_flag p) p rest
-  behind_gives =
+  revision_gives : Gives i (changed SerialRevision n l xs s) (behind_flag p) p rest
+  revision_gives =
       let k : length (escaped_all p ++ behind_packet p) ≡ length (escaped_all p) + 3 = length-append (escaped_all p) (behind_packet p) in
       let place : i + 1 + 1 + length (escaped_all p) + 2 ≡ i + length (behind_flag p) - 1 = omega arith in
       let next : i + 1 + 1 + length (escaped_all p) + 3 ≡ i + length (behind_flag p) = omega arith in
       record {
-        left = checked FrameSearch p r.now s;
+        left = checked FrameSearch p stored.now s;
         opens = inl refl;
-        size = size_both p r.now r.size;
+        size = simp length-set stored.size;
         gives = rw (place, next) at behind_outs;
       }
-
-revision_gives : (s : Receiver) (i n l : ℕ) (xs p rest : List ℕ) → 1 ≤ length p → length p ≤ 255 → length xs ≡ 259
-    → Gives i (changed SerialRevision n l xs s) (behind_flag p) p rest
-revision_gives s i n l xs p rest some few sized =
-    behind_gives s i n l xs p rest some few sized
-    (all_stored s p (i + 1 + 1) (length p) 2 (set (set xs 0 revision) 1 (length p)) (behind_packet p ++ rest) some (omega arith) few
-    (length-set (set xs 0 revision) 1 (length p) ∙ length-set xs 0 revision ∙ sized))
 
 -- the opening flag leads to SerialRevision
 behind-flag : (i : ℕ) (s t : Receiver) (xs p rest : List ℕ) → table_outs i s (flag ∷ (xs ++ rest)) ≡ table_outs (i + 1) t (xs ++ rest)

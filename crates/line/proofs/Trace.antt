@@ -1,9 +1,9 @@
 -- What a state tells of the bytes that led to it: from SerialRevision on, the last bytes fed are a frame's, from its opening to the
 -- receiver's position in it, and the stored bytes are theirs without the escapes. Each row of the table keeps this. Assumes nothing.
 use Prim.Native.Nat.{ℕ, ◌+◌, ◌<◌, ◌≤◌}
-use mathlib.Core.Path.{◌≡◌, ◌∙◌, ap, refl, sym, subst₂}
+use mathlib.Core.Path.{◌≡◌, ◌∙◌, ap, refl, subst₂}
 use mathlib.Core.Logic.{inl, inr}
-use mathlib.Core.Bool.{true, false, cond}
+use mathlib.Core.Bool.{true, cond}
 use mathlib.Core.List.{List, [], ◌∷◌, ◌++◌, append_assoc, append-nil}
 use native.Mathlib.Numerals.{add-one}
 use native.Mathlib.Omega.{arith}
@@ -58,46 +58,10 @@ Trace h s = TraceAt s.position h s
 
 -- ---- one byte more
 
-escaped_one : (c : ℕ) → escaped_all (c ∷ []) ≡ escaped c
-unfolding escaped_all
-escaped_one c = append-nil (escaped c)
-
--- the line behind a packet's byte c, when `raw` and b are c as it stands on the line
-line_more : (packet raw : List ℕ) (b c : ℕ) → raw ++ (b ∷ []) ≡ escaped c
-    → escaped_all packet ++ raw ++ (b ∷ []) ≡ escaped_all (packet ++ (c ∷ [])) ++ []
-line_more packet raw b c e =
-    append_assoc (escaped_all packet) raw (b ∷ [])
-    ∙ ap (λ (l : List ℕ). escaped_all packet ++ l) (e ∙ sym (escaped_one c))
-    ∙ sym (append-nil (escaped_all (packet ++ (c ∷ []))) ∙ escaped_all_append packet (c ∷ []))
-
--- a byte that is neither flag nor escape stands for itself
-plain : (b : ℕ) → eqb b flag ≡ false → eqb b escape ≡ false → b ∷ [] ≡ escaped b
-unfolding escaped
-plain b e f = simp (e, f)
-
--- what stands on the line for a flag and for an escape
-flag_pair : escape ∷ flag_escaped ∷ [] ≡ escaped flag
-unfolding escaped
-flag_pair = refl
-
-escape_pair : escape ∷ escape_escaped ∷ [] ≡ escaped escape
-unfolding escaped
-escape_pair = refl
-
-behind_escape : (b c : ℕ) → eqb b c ≡ true → escape ∷ b ∷ [] ≡ escape ∷ c ∷ []
-behind_escape b c e = ap (λ (x : ℕ). escape ∷ x ∷ []) (eqb-true b c e)
-
--- what is read, with its lists written otherwise
-as_read : {h line line' kept kept' : List ℕ} {s : Receiver} → line ≡ line' → kept ≡ kept' → Read h s line kept → Read h s line' kept'
-as_read {h} {s = s} e f r = subst₂ (Read h s) e f r
-
 -- the stored length is that of revision, count, the packet so far and what is kept behind it
 pub stored_length : {h raw kept : List ℕ} (s : Receiver) (w : Within h s raw kept) → s.len ≤ length s.stored → s.len ≡ length w.packet + length kept + 2
 stored_length {kept = kept} s w room =
     omega (arith, length-take-le s.len s.stored room, ap (λ (l : List ℕ). length l) w.read.holds, length-append w.packet kept)
-
-pub heard_more : (h before line : List ℕ) (b : ℕ) → h ≡ before ++ line → h ++ (b ∷ []) ≡ before ++ (line ++ (b ∷ []))
-heard_more h before line b e = ap (λ (l : List ℕ). l ++ (b ∷ [])) e ∙ append_assoc before line (b ∷ [])
 
 module _ (h : List ℕ) (b : ℕ) (s : Receiver) where
   -- b is fed
@@ -108,45 +72,40 @@ module _ (h : List ℕ) (b : ℕ) (s : Receiver) where
   flag_opens e = record { before = h; opening = b; parts = refl; opens = inl (eqb-true b flag e) }
 
   -- b is read and nothing is stored
-  read_on : (p : Position) (line kept : List ℕ) → Read h s line kept → Read fed (move_to p s) (line ++ (b ∷ [])) kept
-  read_on p line kept r =
-      record { before = r.before; opened = r.opened; heard = heard_more h r.before line b r.heard; holds = r.holds }
+  read_on : (p : Position) {line kept : List ℕ} → Read h s line kept → Read fed (move_to p s) (line ++ (b ∷ [])) kept
+  read_on p r =
+      record { before = r.before; opened = r.opened; heard = simp (r.heard, append_assoc); holds = r.holds }
 
   -- b is read and c is stored for it
-  read_stored : (p : Position) (n c : ℕ) (line kept : List ℕ) → s.len < length s.stored → Read h s line kept
+  read_stored : (p : Position) (n c : ℕ) {line kept : List ℕ} → s.len < length s.stored → Read h s line kept
       → Read fed (move_to p (with_count n (store c s))) (line ++ (b ∷ [])) (kept ++ (c ∷ []))
-  read_stored p n c line kept room r =
+  read_stored p n c room r =
       record {
         before = r.before;
         opened = r.opened;
-        heard = heard_more h r.before line b r.heard;
+        heard = simp (r.heard, append_assoc);
         holds = rw add-one (take-suc-set s.stored s.len c room ∙ ap (λ (l : List ℕ). l ++ (c ∷ [])) r.holds);
       }
 
   -- a packet's byte c is stored
   within_more : (p : Position) (raw : List ℕ) (c : ℕ) → raw ++ (b ∷ []) ≡ escaped c → s.len < length s.stored → Within h s raw []
       → Within fed (move_to p (store c s)) [] []
-  within_more p raw c e room w =
-      let head : List ℕ → List ℕ = λ l. revision ∷ s.count ∷ l in
-      let all = w.packet ++ (c ∷ []) in
-      let kept : w.packet ++ [] ++ (c ∷ []) ≡ all ++ [] = rw (append-nil all, append-nil w.packet) in
-      record {
-        packet = all;
-        read =
-            as_read (ap head (line_more w.packet raw b c e)) (ap head kept)
-            (read_stored p s.count c (head (escaped_all w.packet ++ raw)) (head (w.packet ++ [])) room w.read);
-      }
+  unfolding escaped_all
+  within_more p raw c e room w = record {
+    packet = w.packet ++ (c ∷ []);
+    read =
+        subst₂ (Read fed (move_to p (store c s))) (simp (escaped_all_append, append_assoc, append-nil, e)) (simp append-nil)
+        (read_stored p s.count c room w.read);
+  }
 
   -- an escape is read
   escape_traced : eqb b escape ≡ true → Within h s [] [] → Within fed (move_to DataEscaped s) (escape ∷ []) []
-  escape_traced e w =
-      let head : List ℕ → List ℕ = λ l. revision ∷ s.count ∷ (escaped_all w.packet ++ l) in
-      record {
-        packet = w.packet;
-        read =
-            as_read (ap (λ (l : List ℕ). revision ∷ s.count ∷ l) (append_assoc (escaped_all w.packet) [] (b ∷ [])) ∙ ap (λ (c : ℕ). head (c ∷ [])) (eqb-true b escape e)) refl
-            (read_on DataEscaped (head []) (revision ∷ s.count ∷ (w.packet ++ [])) w.read);
-      }
+  escape_traced e w = record {
+    packet = w.packet;
+    read =
+        subst₂ (Read fed (move_to DataEscaped s)) (simp (append_assoc, eqb-true b escape e)) refl
+        (read_on DataEscaped w.read);
+  }
 
   -- Check once the count is reached: the packet is whole
   data_traced : (raw : List ℕ) (c : ℕ) → raw ++ (b ∷ []) ≡ escaped c → s.len < length s.stored → Within h s raw []
@@ -165,15 +124,14 @@ module _ (h : List ℕ) (b : ℕ) (s : Receiver) where
   -- a check byte is stored
   behind_more : (p : Position) → s.len < length s.stored → Behind h s → Behind fed (move_to p (store b s))
   behind_more p room o =
-      let head : List ℕ → List ℕ = λ l. revision ∷ s.count ∷ l in
       let w = o.within in
       record {
         checks = o.checks ++ (b ∷ []);
         within = record {
           packet = w.packet;
           read =
-              as_read (ap head (append_assoc (escaped_all w.packet) o.checks (b ∷ []))) (ap head (append_assoc w.packet o.checks (b ∷ [])))
-              (read_stored p s.count b (head (escaped_all w.packet ++ o.checks)) (head (w.packet ++ o.checks)) room w.read);
+              subst₂ (Read fed (move_to p (store b s))) (simp append_assoc) (simp append_assoc)
+              (read_stored p s.count b room w.read);
         };
         whole = o.whole;
       }
@@ -199,7 +157,7 @@ module _ (h : List ℕ) (b : ℕ) (s : Receiver) where
     unfolding escaped_all
     count_traced one r =
         by_cond (Trace fed) (eqb b 0) _ _ (λ e. tt)
-        (λ e. record { packet = []; read = read_stored Data b b (revision ∷ []) (revision ∷ []) (omega arith) r })
+        (λ e. record { packet = []; read = read_stored Data b b (omega arith) r })
 
     end_traced : (run_of fresh_of h).position ≡ FrameEnd → Trace fed (frame_end_row b s)
     end_traced ended =
@@ -209,7 +167,7 @@ module _ (h : List ℕ) (b : ℕ) (s : Receiver) where
     -- every row keeps the trace
     pub row_traced : (p : Position) → FitsAt p s.count s.len s.stored → (p ≡ FrameEnd → (run_of fresh_of h).position ≡ FrameEnd) → TraceAt p h s
         → Trace fed (row_of p b s).state
-    unfolding row_of
+    unfolding row_of escaped
     row_traced FrameSearch fits ended t =
         by_cond (λ (p : Position). Trace fed (move_to p s)) (eqb b flag) SerialRevision FrameSearch flag_opens (λ e. tt)
     row_traced SerialRevision fits ended t = revision_traced t
@@ -218,12 +176,12 @@ module _ (h : List ℕ) (b : ℕ) (s : Receiver) where
         by_cond (Trace fed) (eqb b flag) _ _ flag_opens
         (λ e. by_cond (Trace fed) (eqb b escape) _ _
         (λ f. escape_traced f t)
-        (λ f. data_traced [] b (plain b e f) (omega (arith, fits.1)) t))
+        (λ f. data_traced [] b (simp (e, f)) (omega (arith, fits.1)) t))
     row_traced DataEscaped fits ended t =
         by_cond (Trace fed) (eqb b flag_escaped) _ _
-        (λ e. data_traced (escape ∷ []) flag (behind_escape b flag_escaped e ∙ flag_pair) (omega (arith, fits.1)) t)
+        (λ e. data_traced (escape ∷ []) flag (rw (eqb-true b flag_escaped e) refl) (omega (arith, fits.1)) t)
         (λ e. by_cond (Trace fed) (eqb b escape_escaped) _ _
-        (λ f. data_traced (escape ∷ []) escape (behind_escape b escape_escaped f ∙ escape_pair) (omega (arith, fits.1)) t)
+        (λ f. data_traced (escape ∷ []) escape (rw (eqb-true b escape_escaped f) refl) (omega (arith, fits.1)) t)
         (λ f. tt))
     row_traced Check fits ended t =
         by_cond (λ (p : Position). Trace fed (move_to p (store b s))) (eqb (s.len + 1) (s.count + 4)) FrameEnd Check

@@ -1,6 +1,6 @@
 -- Each wrong receiver and taker fails on a stream of its own, which is computed; those of a kind, on any frames. Assumes nothing.
 use Prim.Native.Nat.{ℕ, ◌+◌, ◌-◌}
-use mathlib.Core.Path.{◌≡◌, ◌∙◌, ap, ap₂, refl, subst, sym}
+use mathlib.Core.Path.{◌≡◌, ◌∙◌, ap, refl, subst, sym}
 use mathlib.Core.Logic.{◌≢◌}
 use mathlib.Core.List.{List, [], ◌∷◌, ◌++◌}
 use native.Mathlib.Omega.{arith}
@@ -10,13 +10,12 @@ use Rattle.checks.specs.Laws.{Bytes}
 use Rattle.checks.specs.Register.{bit_step, bit_steps, byte_step, check_from}
 use Rattle.checks.proofs.Bytes.{bytes_each, bytes_none, bytes_replicate}
 use Rattle.serial.specs.declared.receiver.Receiver.{Receiver}
-use Rattle.serial.specs.declared.receiver.Outcome.TheVariants.{Packet}
-use Rattle.serial.specs.declared.receiver.Stepped.{Stepped}
+use Rattle.std.proofs.Common.{Some, Ok}
 use Rattle.framing.specs.Computed.{ending}
 use Rattle.framing.specs.Frame.{AllSendable, Sendable, behind_flag, check_bytes, escape, escaped, escaped_all, flag, frame, frames, revision}
 use Rattle.framing.proofs.FrameLaws.{frame_bytes}
 use Rattle.serial.specs.Receiver.{agrees_of, consistent_of, fits_at, fresh_of, row_of, step_of}
-use Rattle.serial.specs.Run.{Step, emit, outs_by, packet_in, run_by}
+use Rattle.serial.specs.Run.{Step, outs_by, packet_in, run_by}
 use Rattle.serial.specs.Steps.{Call}
 use Rattle.serial.specs.Taker.{take_from, taken_of}
 use Rattle.serial.proofs.Keeps.{fresh_consistent}
@@ -28,7 +27,7 @@ use Rattle.line.specs.Wrong.{CheckIgnoredFails, ComplementedFails, EscapeInCheck
 use Rattle.line.proofs.Converse.{emit_each}
 use Rattle.line.proofs.Demand3.{demand_3, not_heard}
 use Rattle.line.proofs.Ending.{ending_sent}
-use Rattle.line.proofs.Lost.{lost-line, lost_sendable, lost_line}
+use Rattle.line.proofs.Lost.{lost-line, lost_sendable}
 
 -- ---- what demand 3 rules out
 
@@ -65,15 +64,9 @@ escape_in_count_fails =
     missed_fails escape_in_count (replicate 125 0x00) (bytes_replicate 125 0x00 (omega arith), omega arith, omega arith) missed.5
 
 -- the count 126 opens a frame, and then all goes as behind the losing history
-lost_missed : outs_by flag_in_count 0 (run_by flag_in_count fresh_of (flags 3)) (lost_line ++ []) ≡ []
-unfolding outs_by run_by step_of consistent_of fits_at row_of
-lost_missed = refl
-
 pub flag_in_count_fails : FlagInCountFails
-unfolding frames
-flag_in_count_fails =
-    missed_fails flag_in_count lost_packet lost_sendable
-    (ap (λ (l : List ℕ). outs_by flag_in_count 0 (run_by flag_in_count fresh_of (flags 3)) (l ++ [])) lost-line ∙ lost_missed)
+unfolding frames outs_by run_by step_of consistent_of fits_at row_of
+flag_in_count_fails = missed_fails flag_in_count lost_packet lost_sendable (rw lost-line refl)
 
 -- ---- any of a kind
 
@@ -81,18 +74,17 @@ flag_in_count_fails =
 stuck_run : (step : Step) → Stuck step → (bytes : List ℕ) → run_by step fresh_of bytes ≡ fresh_of
 unfolding run_by
 stuck_run step stuck [] = refl
-stuck_run step stuck (b ∷ bs) = ap (λ (o : Stepped). run_by step o.state bs) (stuck b) ∙ stuck_run step stuck bs
+stuck_run step stuck (b ∷ bs) = rw (stuck b) (stuck_run step stuck bs)
 
 stuck_outs : (step : Step) → Stuck step → (i : ℕ) (bytes : List ℕ) → outs_by step i fresh_of bytes ≡ []
 unfolding outs_by
 stuck_outs step stuck i [] = refl
-stuck_outs step stuck i (b ∷ bs) =
-    ap (λ (o : Stepped). emit o.outcome o.state i (outs_by step (i + 1) o.state bs)) (stuck b) ∙ stuck_outs step stuck (i + 1) bs
+stuck_outs step stuck i (b ∷ bs) = rw (stuck b) (stuck_outs step stuck (i + 1) bs)
 
 pub stuck_fails : StuckFails
 stuck_fails step stuck =
     missed_fails step (ending flag) (ending_sent flag (omega arith))
-    (ap (λ (s : Receiver). outs_by step 0 s (frames (ending flag ∷ []))) (stuck_run step stuck (flags 3)) ∙ stuck_outs step stuck 0 (frames (ending flag ∷ [])))
+    (rw (stuck_run step stuck (flags 3)) (stuck_outs step stuck 0 (frames (ending flag ∷ []))))
 
 -- a step that hands out one packet only hands out nothing else in a pass
 only_outs : (packet : List ℕ) (step : Step) → HandsOutOnly packet step → (i : ℕ) (s : Receiver) (bytes : List ℕ)
@@ -110,30 +102,23 @@ same_packet_fails packet step only all =
     let sent : AllSendable two = (ending_sent 0x00 (omega arith), (ending_sent 0x01 (omega arith), tt)) in
     let both = subst (Each (λ place out. out ≡ packet)) (all [] bytes_none 0 two sent)
     (only_outs packet step only 0 (run_by step fresh_of (flags 3)) (frames two)) in
-    let wrong : ◌≡◌ {A = ℕ} 0 1 = ap (λ (l : List ℕ). get_or l 4 0) (both.0 ∙ sym both.1.0) in
-    omega arith
+    cc (both.0, both.1.0)
 
 pub never_hands_out_fails : NeverHandsOutFails
 never_hands_out_fails step nothing = same_packet_fails [] step (λ b n s e. absurd (nothing b n s e))
 
 -- ---- what the converse rules out
 
--- bytes that don't end with a packet's frame, since they differ from it at its place i
-not_sent : (step : Step) (bytes packet : List ℕ) (i : ℕ) → get_or bytes (length bytes - length (behind_flag packet) + i) 0 ≢ get_or (behind_flag packet) i 0
-    → SentAsBy step bytes packet → ⊥
-not_sent step bytes packet i other sent =
-    let before = sent.before in
-    let whole : length bytes ≡ length before + length (behind_flag packet) = ap length sent.parts ∙ length-append before (behind_flag packet) in
-    let place : length bytes - length (behind_flag packet) + i ≡ length before + i = omega arith in
-    other (ap₂ (λ (l : List ℕ) (k : ℕ). get_or l k 0) sent.parts place ∙ get_or-append-add before (behind_flag packet) i 0)
-
--- a packet that is handed out by a byte b behind bytes h, and whose frame they don't end
-not_as_sent : (step : Step) (h packet : List ℕ) (b n i : ℕ) → Bytes h → (step b (run_by step fresh_of h)).outcome ≡ Packet n
+-- a packet that is handed out by a byte b behind bytes h, which don't end with its frame, since they differ from it at its place i
+not_as_sent : (step : Step) (h packet : List ℕ) (b n i : ℕ) → Bytes h → (step b (run_by step fresh_of h)).outcome ≡ Ok (Some n)
     → packet_in n (step b (run_by step fresh_of h)).state ≡ packet
     → get_or (h ++ (b ∷ [])) (length (h ++ (b ∷ [])) - length (behind_flag packet) + i) 0 ≢ get_or (behind_flag packet) i 0
     → OnlyAsSentBy step → ⊥
 not_as_sent step h packet b n i bytes hands is other all =
-    not_sent step (h ++ (b ∷ [])) packet i other (subst (SentAsBy step (h ++ (b ∷ []))) is (all h b n bytes hands))
+    let sent : SentAsBy step (h ++ (b ∷ [])) packet = rw is at (all h b n bytes hands) in
+    let whole : length (h ++ (b ∷ [])) ≡ length sent.before + length (behind_flag packet) = rw sent.parts (length-append sent.before (behind_flag packet)) in
+    let place : length (h ++ (b ∷ [])) - length (behind_flag packet) + i ≡ length sent.before + i = omega arith in
+    other (rw (place, sent.parts) (get_or-append-add sent.before (behind_flag packet) i 0))
 
 -- the line of a packet of five bytes up to its closing flag
 abbrev open_line : List ℕ → List ℕ → List ℕ
@@ -174,8 +159,7 @@ unfolding early placed frame escaped_all escaped
 placed_early_fails all =
     let one = ending 0x00 ∷ [] in
     let sent : AllSendable one = (ending_sent 0x00 (omega arith), tt) in
-    let wrong : ◌≡◌ {A = ℕ} 10 9 = ap first_place (sym (demand_3 [] bytes_none 0 one sent) ∙ all [] bytes_none 0 one sent) in
-    omega arith
+    omega (arith, ap first_place (sym (demand_3 [] bytes_none 0 one sent) ∙ all [] bytes_none 0 one sent))
 
 -- ---- takers
 
@@ -189,13 +173,9 @@ case_a_bytes = frame_bytes (ending flag) (ending_sent flag (omega arith))
 pub fresh_each_call_fails : FreshEachCallFails
 unfolding fed_by taken_of take_from outs_by step_of consistent_of fits_at row_of agrees_of frame escaped_all escaped check_from byte_step bit_steps bit_step
 fresh_each_call_fails all =
-    let pass = all (call_on 6 ∷ call_on 6 ∷ []) 0 fresh_of (frame (ending flag)) fresh_consistent case_a_bytes in
-    let wrong : ◌≡◌ {A = ℕ} 1 0 = ap length pass.packets in
-    omega arith
+    omega (arith, ap length (all (call_on 6 ∷ call_on 6 ∷ []) 0 fresh_of (frame (ending flag)) fresh_consistent case_a_bytes).packets)
 
 pub one_too_many_fails : OneTooManyFails
 unfolding fed_by taken_of take_from outs_by step_of consistent_of fits_at row_of agrees_of frame escaped_all escaped check_from byte_step bit_steps bit_step
 one_too_many_fails all =
-    let pass = all (call_on 12 ∷ []) 0 fresh_of (frame (ending flag)) fresh_consistent case_a_bytes in
-    let wrong : ◌≡◌ {A = ℕ} 11 12 = ap first_place pass.packets in
-    omega arith
+    omega (arith, ap first_place (all (call_on 12 ∷ []) 0 fresh_of (frame (ending flag)) fresh_consistent case_a_bytes).packets)

@@ -1,9 +1,8 @@
 -- What keeps a stranger out: a packet is handed out only where the last bytes fed are its frame, from the revision to the closing flag.
 -- The proofs: `proofs/Converse.antt`. Assumes nothing.
-use Rattle.std.specs.Prelude.{ℕ, ◌+◌, ◌≡◌, ◌⊎◌, List, [], ◌∷◌, ◌++◌, take}
+use Rattle.std.specs.Prelude.{ℕ, ◌+◌, ◌≡◌, ◌⊎◌, List, [], ◌∷◌, ◌++◌, Some, Ok, take}
 use Rattle.checks.specs.Laws.{Bytes}
 use Rattle.serial.specs.declared.receiver.Position.TheVariants.{FrameEnd}
-use Rattle.serial.specs.declared.receiver.Outcome.TheVariants.{Packet}
 use Rattle.framing.specs.Frame.{behind_flag, flag, frame, revision}
 use Rattle.framing.specs.Computed.{ending}
 use Rattle.serial.specs.Receiver.{fresh_of, step_of}
@@ -24,7 +23,7 @@ pub record SentAsBy (step : Step) (bytes packet : List ℕ) : Type 0 where
 
 -- from fresh, after any bytes h, a byte b that hands out a packet ends that packet's frame
 abbrev pub OnlyAsSentBy : Step → Type 0
-OnlyAsSentBy step = (h : List ℕ) (b n : ℕ) → Bytes h → (step b (run_by step fresh_of h)).outcome ≡ Packet n
+OnlyAsSentBy step = (h : List ℕ) (b n : ℕ) → Bytes h → (step b (run_by step fresh_of h)).outcome ≡ Ok (Some n)
     → SentAsBy step (h ++ (b ∷ [])) (packet_in n (step b (run_by step fresh_of h)).state)
 
 -- by our step

@@ -1,14 +1,13 @@
 -- Wrong receivers and takers, those that document 01 names and some that a tired person writes. Demand 3, its converse or `AnyCutting` is false of
 -- each, so these statements rule it out. The proofs: `proofs/Wrong.antt`. Assumes nothing.
-use Rattle.std.specs.Prelude.{ℕ, ◌+◌, ◌-◌, ◌*◌, ◌≡◌, Bool, true, cond, ◌&&◌, ◌||◌, List, [], ◌∷◌, eqb, get_or, length, take}
+use Rattle.std.specs.Prelude.{ℕ, ◌+◌, ◌-◌, ◌*◌, ◌≡◌, Bool, true, cond, ◌&&◌, ◌||◌, List, [], ◌∷◌, Some, Ok, eqb, get_or, length, take}
 use Rattle.std.specs.Int.Bits.{bit_xor}
 use Rattle.checks.specs.FrameCheck.{frame_check}
 use Rattle.serial.specs.declared.receiver.Position.{Position}
 use Rattle.serial.specs.declared.receiver.Position.TheVariants.{FrameSearch, SerialRevision, ByteCount, DataEscaped, Check, FrameEnd}
 use Rattle.serial.specs.declared.receiver.Receiver.{Receiver}
-use Rattle.serial.specs.declared.receiver.Outcome.TheVariants.{Packet}
 use Rattle.framing.specs.Frame.{escape, escape_escaped, flag, flag_escaped, frame}
-use Rattle.serial.specs.Receiver.{frame_end_row, fresh_of, move_to, position_number, quiet, step_of, store_data}
+use Rattle.serial.specs.Receiver.{frame_end_row, fresh_of, move_to, position_number, quiet, step_of, stepped, store_data}
 use Rattle.serial.specs.Run.{Step, packet_in}
 use Rattle.serial.specs.Steps.{called}
 use Rattle.serial.specs.Taker.{stop}
@@ -24,7 +23,7 @@ differs_at p other b s = cond (eqb (position_number p) (position_number s.positi
 
 -- it hands out nothing, ever
 abbrev HandsOutNothing : Step → Type 0
-HandsOutNothing step = (b n : ℕ) (s : Receiver) → (step b s).outcome ≡ Packet n → ⊥
+HandsOutNothing step = (b n : ℕ) (s : Receiver) → (step b s).outcome ≡ Ok (Some n) → ⊥
 
 -- it is stuck in its first state
 abbrev pub Stuck : Step → Type 0
@@ -32,7 +31,7 @@ Stuck step = (b : ℕ) → step b fresh_of ≡ quiet fresh_of
 
 -- it hands out the same packet always
 abbrev pub HandsOutOnly : List ℕ → Step → Type 0
-HandsOutOnly packet step = (b n : ℕ) (s : Receiver) → (step b s).outcome ≡ Packet n → packet_in n (step b s).state ≡ packet
+HandsOutOnly packet step = (b n : ℕ) (s : Receiver) → (step b s).outcome ≡ Ok (Some n) → packet_in n (step b s).state ≡ packet
 
 -- none of these hears the frames behind three flags
 abbrev pub NeverHandsOutFails : Type 0
@@ -111,7 +110,7 @@ FlippedFails = OnlyAsSentBy flipped → ⊥
 -- a flag in FrameEnd hands out the packet where another test passes
 abbrev hands_out_by : (Receiver → Bool) → Step
 hands_out_by passes =
-    differs_at FrameEnd (λ b s. cond (eqb b flag && passes s) (record { outcome = Packet s.count; state = frame_end_row b s }) (quiet (frame_end_row b s)))
+    differs_at FrameEnd (λ b s. cond (eqb b flag && passes s) (stepped (Ok (Some s.count)) (frame_end_row b s)) (quiet (frame_end_row b s)))
 
 -- the check of what is stored, and the two check bytes that are stored, in their order
 abbrev check_of_stored : Receiver → ℕ

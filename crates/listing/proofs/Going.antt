@@ -1,13 +1,12 @@
 -- A listing under way: what the rest of the input gives, from the state and the place reached, completes the packets, the text and the state of the
 -- whole. A call of the taker moves it on, since one pass goes on behind the bytes that the call took. Assumes nothing.
-use Prim.Native.Nat.{ℕ, ◌+◌, ◌-◌, ◌≤◌, ◌<◌}
+use Prim.Native.Nat.{ℕ, ◌+◌, ◌≤◌}
 use mathlib.Core.Path.{◌≡◌, ◌∙◌, ap, ap₂, refl, subst, sym}
 use mathlib.Core.List.{List, [], ◌++◌}
 use native.Mathlib.Nat.{zero-add}
 use native.Mathlib.Omega.{arith}
-use lib.ListN.{length, drop, take, drop_of_length-le, length-append, length-drop}
-use lib.Seq.{drop-drop}
-use borrow.Author.Rules.{part_to_end}
+use lib.ListN.{length, drop, length-append}
+use Rattle.std.proofs.lemmas.List.{nil_from_length}
 use Rattle.checks.specs.Laws.{Bytes}
 use Rattle.checks.specs.Output.{put_at}
 use Rattle.checks.proofs.Bytes.{bytes_drop}
@@ -22,24 +21,23 @@ use Rattle.listing.proofs.Said.{Said}
 use Rattle.listing.proofs.TextLaws.{lines_append, lines_least}
 use Rattle.listing.proofs.TurnLaws.{next-heard, next_kept, next_run, next_some, next_within}
 
--- of an input from the state s₀ into the output out₀: what is reached is the state s, the place, `used` bytes of text in `out`, and so many packets
-pub record Going (input out₀ : List ℕ) (s₀ : Receiver) (out : List ℕ) (s : Receiver) (place used packets : ℕ) : Type 0 where
-  pub bytes : Bytes input
+-- of an input from the state s₀ into the output out₀: what is reached is the state s, the rest of the input, `used` bytes of text in `out`, and so many
+-- packets
+pub record Going (input out₀ : List ℕ) (s₀ : Receiver) (out : List ℕ) (s : Receiver) (rest : List ℕ) (used packets : ℕ) : Type 0 where
+  pub bytes : Bytes rest
   pub room : length (lines_of (heard s₀ input)) ≤ length out₀
-  pub within : place ≤ length input
   pub fits : Consistent s
-  pub run : run_of s (drop place input) ≡ run_of s₀ input
+  pub run : run_of s rest ≡ run_of s₀ input
   pub sized : length out ≡ length out₀
-  pub counted : packets + length (heard s (drop place input)) ≡ length (heard s₀ input)
-  pub measured : used + length (lines_of (heard s (drop place input))) ≡ length (lines_of (heard s₀ input))
-  pub text : put_at used (lines_of (heard s (drop place input))) out ≡ put_at 0 (lines_of (heard s₀ input)) out₀
+  pub counted : packets + length (heard s rest) ≡ length (heard s₀ input)
+  pub measured : used + length (lines_of (heard s rest)) ≡ length (lines_of (heard s₀ input))
+  pub text : put_at used (lines_of (heard s rest)) out ≡ put_at 0 (lines_of (heard s₀ input)) out₀
 
 -- at the start
-pub begun : (input out : List ℕ) (s : Receiver) → Bytes input → length (lines_of (heard s input)) ≤ length out → Consistent s → Going input out s out s 0 0 0
+pub begun : (input out : List ℕ) (s : Receiver) → Bytes input → length (lines_of (heard s input)) ≤ length out → Consistent s → Going input out s out s input 0 0
 begun input out s bytes room fits = record {
   bytes = bytes;
   room = room;
-  within = omega arith;
   fits = fits;
   run = refl;
   sized = refl;
@@ -48,107 +46,95 @@ begun input out s bytes room fits = record {
   text = refl;
 }
 
-module _ {input out₀ : List ℕ} {s₀ : Receiver} {out : List ℕ} {s : Receiver} {place used packets : ℕ} (g : Going input out₀ s₀ out s place used packets) where
-  -- the part that is lent to the call is the rest
-  lent : take (length input - place) (drop place input) ≡ drop place input
-  lent = part_to_end input place
-
-  pub rest_fits : used + length (lines_of (heard s (take (length input - place) (drop place input)))) ≤ length out
-  rest_fits = omega (arith, ap (λ (xs : List ℕ). length (lines_of (heard s xs))) lent, g.measured, g.sized, g.room)
+module _ {input out₀ : List ℕ} {s₀ : Receiver} {out : List ℕ} {s : Receiver} {rest : List ℕ} {used packets : ℕ} (g : Going input out₀ s₀ out s rest used packets) where
+  pub rest_fits : used + length (lines_of (heard s rest)) ≤ length out
+  rest_fits = omega (arith, g.measured, g.sized, g.room)
 
   -- a call
-  module _ {turn : Turn} {left : List ℕ} (said : Said s (take (length input - place) (drop place input)) used out turn left) where
-    of_rest : Said s (drop place input) used out turn left
-    of_rest = subst (λ (xs : List ℕ). Said s xs used out turn left) lent said
-
+  module _ {turn : Turn} {left : List ℕ} (said : Said s rest used out turn left) where
     -- what the turn has
-    made : {A : Type 0} (part : Turn → A) → part turn ≡ part (next_turn s (drop place input) used)
-    made part = ap part of_rest.value
+    made : {A : Type 0} (part : Turn → A) → part turn ≡ part (next_turn s rest used)
+    made part = ap part said.value
 
-    taken_made : turn.taken ≡ (next_taken s (drop place input)).taken
+    taken_made : turn.taken ≡ (next_taken s rest).taken
     taken_made = made (λ (t : Turn). t.taken)
 
-    state_made : turn.state ≡ (next_taken s (drop place input)).state
+    state_made : turn.state ≡ (next_taken s rest).state
     state_made = made (λ (t : Turn). t.state)
 
-    used_made : turn.used ≡ used + length (lines_of (next_heard s (drop place input)))
+    used_made : turn.used ≡ used + length (lines_of (next_heard s rest))
     used_made = made (λ (t : Turn). t.used)
 
-    packets_made : turn.packets ≡ length (next_heard s (drop place input))
+    packets_made : turn.packets ≡ length (next_heard s rest)
     packets_made = made (λ (t : Turn). t.packets)
 
     first : List (List ℕ)
-    first = next_heard s (drop place input)
+    first = next_heard s rest
 
     later : List (List ℕ)
-    later = heard turn.state (drop (place + turn.taken) input)
+    later = heard turn.state (drop turn.taken rest)
 
-    -- behind the bytes taken
-    behind : drop (next_taken s (drop place input)).taken (drop place input) ≡ drop (place + turn.taken) input
-    behind = ap (λ (n : ℕ). drop n (drop place input)) (sym taken_made) ∙ drop-drop turn.taken place input
-
-    goes_on : heard s (drop place input) ≡ first ++ later
+    goes_on : heard s rest ≡ first ++ later
     unfolding first later
     goes_on =
-        next-heard s (drop place input) g.fits
-        ∙ ap₂ (λ (u : Receiver) (xs : List ℕ). next_heard s (drop place input) ++ heard u xs) (sym (state_made)) behind
+        next-heard s rest g.fits
+        ∙ ap₂ (λ (u : Receiver) (n : ℕ). next_heard s rest ++ heard u (drop n rest)) (sym state_made) (sym taken_made)
 
-    lines_go_on : lines_of (heard s (drop place input)) ≡ lines_of first ++ lines_of later
+    lines_go_on : lines_of (heard s rest) ≡ lines_of first ++ lines_of later
     lines_go_on = ap lines_of goes_on ∙ lines_append first later
 
-    pub taken_within : place + turn.taken ≤ length input
-    taken_within = omega (arith, taken_made, next_within s (drop place input) g.fits, length-drop place input, g.within)
+    pub taken_within : turn.taken ≤ length rest
+    taken_within = omega (arith, taken_made, next_within s rest g.fits)
 
-    pub taken_some : place < length input → 1 ≤ turn.taken
-    taken_some h =
-        omega (arith, taken_made, next_some s (drop place input) g.fits (omega (arith, length-drop place input)))
+    pub taken_some : 1 ≤ length rest → 1 ≤ turn.taken
+    taken_some h = omega (arith, taken_made, next_some s rest g.fits h)
 
     pub counted_within : packets + turn.packets ≤ length out₀
     unfolding first
     counted_within =
         omega (arith, g.counted, packets_made, ap length goes_on, length-append first later, lines_least (heard s₀ input), g.room)
 
-    pub moved : Going input out₀ s₀ left turn.state (place + turn.taken) turn.used (packets + turn.packets)
+    pub moved : Going input out₀ s₀ left turn.state (drop turn.taken rest) turn.used (packets + turn.packets)
     unfolding first later
     moved =
         let text = length-append (lines_of first) (lines_of later) in
         record {
-          bytes = g.bytes;
+          bytes = bytes_drop turn.taken rest g.bytes;
           room = g.room;
-          within = taken_within;
-          fits = subst Consistent (sym (state_made)) (next_kept s (drop place input) g.fits (bytes_drop place input g.bytes));
+          fits = subst Consistent (sym state_made) (next_kept s rest g.fits g.bytes);
           run =
-              ap₂ (λ (u : Receiver) (xs : List ℕ). run_of u xs) (state_made) (sym behind)
-              ∙ sym (next_run s (drop place input) g.fits) ∙ g.run;
+              ap₂ (λ (u : Receiver) (n : ℕ). run_of u (drop n rest)) state_made taken_made
+              ∙ sym (next_run s rest g.fits) ∙ g.run;
           sized =
-              ap length of_rest.out_after
+              ap length said.out_after
               ∙ length_put used (lines_of first) out (omega (arith, text, ap length lines_go_on, g.measured, g.sized, g.room))
               ∙ g.sized;
           counted = omega (arith, g.counted, packets_made, ap length goes_on, length-append first later);
           measured = omega (arith, g.measured, used_made, ap length lines_go_on, text);
           text =
-              ap₂ (λ (n : ℕ) (xs : List ℕ). put_at n (lines_of later) xs) (used_made) of_rest.out_after
+              ap₂ (λ (n : ℕ) (xs : List ℕ). put_at n (lines_of later) xs) used_made said.out_after
               ∙ put_put used (lines_of first) (lines_of later) out (omega (arith, text, ap length lines_go_on, g.measured, g.sized, g.room))
               ∙ ap (λ (xs : List ℕ). put_at used xs out) (sym lines_go_on)
               ∙ g.text;
         }
 
 -- the rest of an input whose end is reached gives nothing
-none_heard : (input : List ℕ) (s : Receiver) (place : ℕ) → length input ≤ place → heard s (drop place input) ≡ []
+none_heard : (s : Receiver) → heard s [] ≡ []
 unfolding outs_by packets_of
-none_heard input s place h = ap (heard s) (drop_of_length-le input {i = place} h)
+none_heard s = refl
 
 -- at its end all is done
-pub ended : {input out₀ : List ℕ} {s₀ : Receiver} {out : List ℕ} {s : Receiver} {place used packets : ℕ}
-    → Going input out₀ s₀ out s place used packets → length input ≤ place
+pub ended : {input out₀ : List ℕ} {s₀ : Receiver} {out : List ℕ} {s : Receiver} {rest : List ℕ} {used packets : ℕ}
+    → Going input out₀ s₀ out s rest used packets → length rest ≡ 0
     → (used ≡ length (lines_of (heard s₀ input))) × (packets ≡ length (heard s₀ input)) × (s ≡ run_of s₀ input)
     × (out ≡ put_at 0 (lines_of (heard s₀ input)) out₀)
 unfolding run_by lines_of
-ended {input} {out₀} {s₀} {out} {s} {place} {used} g h =
-    let none = none_heard input s place h in
-    let no_text : lines_of (heard s (drop place input)) ≡ [] = ap lines_of none in (
+ended {input} {out₀} {s₀} {out} {s} {rest} {used} g h =
+    let end = nil_from_length rest h in
+    let none = ap (heard s) end ∙ none_heard s in
+    let no_text : lines_of (heard s rest) ≡ [] = ap lines_of none in (
       omega (arith, g.measured, ap length no_text),
       omega (arith, g.counted, ap length none),
-      sym (ap (run_of s) (drop_of_length-le input {i = place} h)) ∙ g.run,
+      sym (ap (run_of s) end) ∙ g.run,
       sym (ap (λ (xs : List ℕ). put_at used xs out) no_text ∙ put_none used out (omega (arith, g.measured, ap length no_text, g.sized, g.room))) ∙ g.text,
     )

@@ -7,17 +7,16 @@ use native.Mathlib.Nat.{le_refl, min-le_left, zero-add}
 use native.Mathlib.Omega.{arith}
 use lib.Dec.{eqb}
 use lib.ListN.{length, drop, take, length-append, length-take}
+use Rattle.std.proofs.Common.{None, Some, Ok, Err}
 use Rattle.checks.specs.Laws.{Bytes}
 use Rattle.checks.proofs.Choice.{by_cond}
-use Rattle.serial.specs.declared.receiver.Outcome.{Outcome}
-use Rattle.serial.specs.declared.receiver.Outcome.TheVariants.{Nothing, Packet, Inconsistent}
 use Rattle.serial.specs.declared.receiver.Position.{Position}
 use Rattle.serial.specs.declared.receiver.Position.TheVariants.{FrameSearch, SerialRevision, ByteCount, Data, DataEscaped, Check, FrameEnd}
 use Rattle.serial.specs.declared.receiver.Receiver.{Receiver}
 use Rattle.serial.specs.declared.receiver.Stepped.{Stepped}
 use Rattle.serial.specs.Consistency.{Consistent}
 use Rattle.framing.specs.Frame.{escape, escape_escaped, flag, flag_escaped}
-use Rattle.serial.specs.Receiver.{byte_count_row, check_row, data_escaped_row, data_row, frame_end_row, frame_search_row, hands_out, row_of, serial_revision_row, step_of}
+use Rattle.serial.specs.Receiver.{Outcome, byte_count_row, check_row, data_escaped_row, data_row, frame_end_row, frame_search_row, hands_out, row_of, serial_revision_row, step_of}
 use Rattle.serial.specs.Run.{emit, outs_by, outs_of, packet_in, packets_of}
 use Rattle.serial.proofs.Consistent.{FitsAt, facts, row-of}
 use Rattle.serial.proofs.Keeps.{keeps}
@@ -51,11 +50,11 @@ light FrameEnd l = le_refl (2 * l)
 
 -- the text that an outcome writes
 written : Outcome → Receiver → ℕ
-written Nothing s = 0
-written (Packet n) s = length (line_of (packet_in n s))
-written Inconsistent s = 0
+written (Ok None) s = 0
+written (Ok (Some n)) s = length (line_of (packet_in n s))
+written (Err e) s = 0
 
-written_most : (n : ℕ) (s : Receiver) → written (Packet n) s ≤ 2 * n + 1
+written_most : (n : ℕ) (s : Receiver) → written (Ok (Some n)) s ≤ 2 * n + 1
 unfolding written
 written_most n s =
     let few : length (take n (drop 2 s.stored)) ≤ n = omega (arith, length-take n (drop 2 s.stored), min-le_left n (length (drop 2 s.stored))) in
@@ -114,9 +113,9 @@ step_adds s b c =
 emit_written : (o : Outcome) (s : Receiver) (i : ℕ) (rest : List (ℕ × List ℕ))
     → length (lines_of (packets_of (emit o s i rest))) ≡ written o s + length (lines_of (packets_of rest))
 unfolding lines_of packets_of written
-emit_written Nothing s i rest = sym (zero-add _)
-emit_written (Packet n) s i rest = length-append (line_of (packet_in n s)) (lines_of (packets_of rest))
-emit_written Inconsistent s i rest = sym (zero-add _)
+emit_written (Ok None) s i rest = sym (zero-add _)
+emit_written (Ok (Some n)) s i rest = length-append (line_of (packet_in n s)) (lines_of (packets_of rest))
+emit_written (Err e) s i rest = sym (zero-add _)
 
 bounded : (i : ℕ) (s : Receiver) (bytes : List ℕ) → Consistent s → Bytes bytes
     → length (lines_of (packets_of (outs_of i s bytes))) ≤ weight s + 2 * length bytes

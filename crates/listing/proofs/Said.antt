@@ -6,17 +6,17 @@ use mathlib.Core.List.{List, [], ◌∷◌, ◌++◌}
 use native.Mathlib.Omega.{arith}
 use lib.ListN.{length, drop, take, length-append}
 use lib.Seq.{take_at}
+use Rattle.std.proofs.Common.{Ok, Err}
 use Rattle.checks.specs.Laws.{Bytes}
 use Rattle.checks.specs.Output.{put_at}
 use Rattle.checks.proofs.Output.{length_start}
 use Rattle.io.proofs.Counting.{prefix_len_of_le}
 use Rattle.serial.specs.declared.receiver.Receiver.{Receiver}
-use Rattle.serial.specs.declared.taker.Reason.{Reason}
-use Rattle.serial.specs.declared.taker.Reason.TheVariants.{Packet, InputEnded, AllowanceSpent, ShortOutput, Inconsistent}
+use Rattle.serial.specs.declared.taker.Stop.TheVariants.{Packet, InputEnded, AllowanceSpent}
 use Rattle.serial.specs.declared.taker.Taken.{Taken}
 use Rattle.serial.specs.Consistency.{Consistent}
 use Rattle.serial.specs.Run.{heard, packet_in}
-use Rattle.serial.specs.Taker.{copied_of, taken_of}
+use Rattle.serial.specs.Taker.{Reason, copied_of, taken_of}
 use Rattle.listing.specs.declared.lines.Added.{Added}
 use Rattle.listing.specs.declared.lines.Turn.{Turn}
 use Rattle.listing.specs.Text.{lines_of}
@@ -42,7 +42,7 @@ module _ {s : Receiver} {input before after : List ℕ} {t : Taken} (d : Called 
   same = d.result ∙ ap (λ (room : ℕ). taken_of input (length input) room s) d.sized
 
   -- a packet was handed out
-  module _ (n : ℕ) (f : t.reason ≡ Packet n) where
+  module _ (n : ℕ) (f : t.reason ≡ Ok (Packet n)) where
     here : (n ≤ 255) × (length (packet_in n (next_taken s input).state) ≡ n)
     here = next_packet s input d.fits n d.bytes (sym (ap (λ (x : Taken). x.reason) same) ∙ f)
 
@@ -65,22 +65,20 @@ module _ {s : Receiver} {input before after : List ℕ} {t : Taken} (d : Called 
   copied_within = go t.reason refl
     where
       go : (r : Reason) → t.reason ≡ r → CopiedWithin r after
-      go (Packet n) f = prefix_len_of_le n after (packet_room n f)
-      go InputEnded f = tt
-      go AllowanceSpent f = tt
-      go ShortOutput f = tt
-      go Inconsistent f = tt
+      go (Ok (Packet n)) f = prefix_len_of_le n after (packet_room n f)
+      go (Ok InputEnded) f = tt
+      go (Ok AllowanceSpent) f = tt
+      go (Err e) f = tt
 
   -- and is what was handed out
   pub copied_heard : copied_out t.reason after ≡ next_heard s input
   copied_heard = go t.reason refl ∙ ap (λ (x : Taken). handed_out x.reason x.state) same
     where
       go : (r : Reason) → t.reason ≡ r → copied_out r after ≡ handed_out r t.state
-      go (Packet n) f = ap (λ (p : List ℕ). p ∷ []) (packet_bytes n f)
-      go InputEnded f = refl
-      go AllowanceSpent f = refl
-      go ShortOutput f = refl
-      go Inconsistent f = refl
+      go (Ok (Packet n)) f = ap (λ (p : List ℕ). p ∷ []) (packet_bytes n f)
+      go (Ok InputEnded) f = refl
+      go (Ok AllowanceSpent) f = refl
+      go (Err e) f = refl
 
   -- its line fits, since it is the first of those that the whole input gives
   pub line_fits : (used room : ℕ) → used + length (lines_of (heard s input)) ≤ room → used + length (lines_of (copied_out t.reason after)) ≤ room

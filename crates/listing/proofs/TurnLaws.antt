@@ -5,30 +5,29 @@ use mathlib.Core.List.{List, [], ◌∷◌, ◌++◌}
 use native.Mathlib.Omega.{arith}
 use lib.ListN.{length, drop}
 use lib.Seq.{take-length}
+use Rattle.std.proofs.Common.{Ok, Err}
 use Rattle.checks.specs.Laws.{Bytes}
 use Rattle.framing.specs.Frame.{packet_most}
 use Rattle.serial.specs.declared.receiver.Receiver.{Receiver}
-use Rattle.serial.specs.declared.taker.Reason.{Reason}
-use Rattle.serial.specs.declared.taker.Reason.TheVariants.{Packet as PacketTaken, InputEnded, AllowanceSpent, ShortOutput, Inconsistent as InconsistentTaken}
+use Rattle.serial.specs.declared.taker.Stop.TheVariants.{Packet, InputEnded, AllowanceSpent}
 use Rattle.serial.specs.declared.taker.Taken.{Taken}
 use Rattle.serial.specs.Consistency.{Consistent}
 use Rattle.serial.specs.Steps.{Call, called, handed}
 use Rattle.serial.specs.Run.{heard, outs_of, packet_in, packets_of, run_of}
-use Rattle.serial.specs.Taker.{take_from, taken_of}
+use Rattle.serial.specs.Taker.{Reason, stop, take_from, taken_of}
 use Rattle.serial.proofs.Steps.{goes_on, kept, state_goes_on, takes_one, within}
 use Rattle.serial.proofs.Run.{any_place, packets_append}
-use Rattle.serial.proofs.TakerLaws.{Few, packet_length, took}
+use Rattle.serial.proofs.TakerLaws.{packet_length, took}
 use Rattle.listing.specs.Turn.{handed_out, next_heard, next_taken}
 
 -- ---- one call
 
 handed_packets : (r : Reason) (s : Receiver) (i : ℕ) → packets_of (handed r s i []) ≡ handed_out r s
 unfolding packets_of
-handed_packets (PacketTaken n) s i = refl
-handed_packets InputEnded s i = refl
-handed_packets AllowanceSpent s i = refl
-handed_packets ShortOutput s i = refl
-handed_packets InconsistentTaken s i = refl
+handed_packets (Ok (Packet n)) s i = refl
+handed_packets (Ok InputEnded) s i = refl
+handed_packets (Ok AllowanceSpent) s i = refl
+handed_packets (Err e) s i = refl
 
 turn_heard : (c : Call) (s : Receiver) (stream : List ℕ) → Consistent s
     → heard s stream
@@ -66,11 +65,12 @@ module _ (s : Receiver) (input : List ℕ) (fits : Consistent s) where
   next_kept h = subst (λ (t : Taken). Consistent t.state) (same_call s input) (kept (whole input) s input fits h)
 
   -- a packet has as many bytes as is said, at most 255
-  pub next_packet : (n : ℕ) → Bytes input → (next_taken s input).reason ≡ PacketTaken n → (n ≤ packet_most) × (length (packet_in n (next_taken s input).state) ≡ n)
+  pub next_packet : (n : ℕ) → Bytes input → (next_taken s input).reason ≡ Ok (Packet n) → (n ≤ packet_most) × (length (packet_in n (next_taken s input).state) ≡ n)
   unfolding taken_of
   next_packet n h e =
       let from : next_taken s input ≡ take_from input (length input) s 0 = simp fits.fits in
-      let few : n ≤ packet_most = subst Few (sym (ap (λ (t : Taken). t.reason) from) ∙ e) (took input (length input) s fits h).0 in
+      let t = next_taken s input in
+      let few = (took input (length input) s (Packet n) t.taken t.state fits h (ap (λ (r : Reason). stop r t.taken t.state) (sym e) ∙ from)).few_bytes in
       (few, packet_length (next_taken s input).state n (next_kept h).sized few)
 
 -- where there is a byte it takes one

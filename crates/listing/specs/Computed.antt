@@ -1,12 +1,12 @@
 -- What is computed, step by step, from the definitions: the whole output for case A, as document 01 prints it ('Program'), and what `list` answers and
 -- leaves at its limits. A function that answers anything else there breaks its contract. The proofs: `proofs/Computed.antt`. Assumes nothing.
-use Rattle.std.specs.Prelude.{ℕ, ◌≡◌, List, [], ◌∷◌, ◌++◌}
+use Rattle.std.specs.Prelude.{ℕ, ◌≡◌, List, [], ◌∷◌, ◌++◌, Ok, Err}
 use Rattle.checks.specs.Numbers.{answer, done, inconsistent, short_output, value_of}
 use Rattle.framing.specs.Frame.{flag}
 use Rattle.serial.specs.declared.receiver.Position.TheVariants.{Data, SerialRevision}
+use Rattle.serial.specs.declared.taker.TakeError.TheVariants.{ShortOutput, Inconsistent}
 use Rattle.serial.specs.Computed.{behind}
 use Rattle.serial.specs.Receiver.{fresh_of, move_to}
-use Rattle.listing.specs.declared.lines.Lines.TheVariants.{Done, ShortOutput, Inconsistent}
 use Rattle.listing.specs.Closing.{closing_line, output_for}
 use Rattle.listing.specs.Listing.{lines_answer, list_answer, listed, state_after}
 
@@ -42,9 +42,9 @@ LargestWritten = (closing_line 0 18446744073709551615
 -- the number of every answer, from document 01's table, and its value, which is 0 where it has none: no other number, no length lost, and no number of a
 -- refusal as its value
 abbrev pub NumbersTold : Type 0
-NumbersTold = (n : ℕ) → ((lines_answer (Done n)).number ≡ 0) × (value_of (lines_answer (Done n)) ≡ n)
-    × ((lines_answer ShortOutput).number ≡ 2) × (value_of (lines_answer ShortOutput) ≡ 0)
-    × ((lines_answer Inconsistent).number ≡ 9) × (value_of (lines_answer Inconsistent) ≡ 0)
+NumbersTold = (n : ℕ) → ((lines_answer (Ok n)).number ≡ 0) × (value_of (lines_answer (Ok n)) ≡ n)
+    × ((lines_answer (Err ShortOutput)).number ≡ 2) × (value_of (lines_answer (Err ShortOutput)) ≡ 0)
+    × ((lines_answer (Err Inconsistent)).number ≡ 9) × (value_of (lines_answer (Err Inconsistent)) ≡ 0)
 
 -- the room asked for no byte is 518, for one byte 520, and a byte less is refused by 2; 9 before 2
 abbrev pub ListAnswered : Type 0

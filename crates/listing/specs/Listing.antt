@@ -1,25 +1,28 @@
 -- What `list` answers, and what it leaves: the state, and the packets whose lines are in the output. Assumes nothing.
-use Rattle.std.specs.Prelude.{ℕ, ◌+◌, ◌*◌, Bool, cond, ◌&&◌, List, [], ◌∷◌, leb, length}
+use Rattle.std.specs.Prelude.{ℕ, ◌+◌, ◌*◌, Bool, cond, ◌&&◌, List, [], ◌∷◌, Result, Ok, Err, leb, length}
 use Rattle.checks.specs.Numbers.{Answer, answer, done, inconsistent, short_output}
 use Rattle.io.specs.Counts.{IsPrefixLen}
 use Rattle.serial.specs.declared.receiver.Receiver.{Receiver}
+use Rattle.serial.specs.declared.taker.TakeError.{TakeError}
+use Rattle.serial.specs.declared.taker.TakeError.TheVariants.{ShortOutput, Inconsistent}
 use Rattle.serial.specs.Receiver.{consistent_of, fresh_of, stored_size}
 use Rattle.serial.specs.Run.{heard, run_of}
-use Rattle.listing.specs.declared.lines.Lines.{Lines}
-use Rattle.listing.specs.declared.lines.Lines.TheVariants.{Done, ShortOutput, Inconsistent}
 use Rattle.listing.specs.Text.{lines_of}
+
+-- what is answered: the length of the text, or the refusal by number 2 or 9
+abbrev pub Lines : Type 0
+Lines = Result ℕ TakeError
 
 -- the answer in document 01's numbers; the value is the length of the text
 abbrev pub lines_answer : Lines → Answer
-lines_answer (Done n) = answer done (n ∷ [])
-lines_answer ShortOutput = answer short_output []
-lines_answer Inconsistent = answer inconsistent []
+lines_answer (Ok n) = answer done (n ∷ [])
+lines_answer (Err ShortOutput) = answer short_output []
+lines_answer (Err Inconsistent) = answer inconsistent []
 
 -- the text lies within the output: the kit's `IsPrefixLen`, so that a caller may lend its part
 abbrev pub Within : Lines → List ℕ → Type 0
-Within (Done n) out = IsPrefixLen n out
-Within ShortOutput out = Unit {0}
-Within Inconsistent out = Unit {0}
+Within (Ok n) out = IsPrefixLen n out
+Within (Err e) out = Unit {0}
 
 -- the room for what may be stored before an input: two digits for each of the 259 stored bytes
 abbrev pub stored_text : ℕ

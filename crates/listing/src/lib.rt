@@ -5,4 +5,4 @@ mod ending;
 mod lines;
 
 pub use ending::closing_line;
-pub use lines::{Lines, Listed, list};
+pub use lines::{Listed, list};

@@ -1,6 +1,6 @@
 // The packets that bytes of a serial line hand out, as lines of hex in a lent output.
 ghost use Rattle.std.specs.Prelude.{◌+◌, ◌≤◌, ◌≡◌, true, [], ◌∷◌, length};
-ghost use Rattle.checks.specs.Numbers.{answer, done, value_of};
+ghost use Rattle.checks.specs.Numbers.{answer, done};
 ghost use Rattle.checks.specs.Output.{at_start, put_at};
 ghost use Rattle.serial.specs.Receiver.{consistent_of};
 ghost use Rattle.serial.specs.Run.{heard, run_of};
@@ -9,47 +9,15 @@ ghost use Rattle.listing.specs.Text.{lines_of};
 ghost use Rattle.listing.specs.Turn.{CopiedWithin, added, copied_out, next_heard, next_turn};
 
 use framing::PACKET_MOST;
-use serial::{Reason, Receiver, STORED_SIZE};
+use serial::{Receiver, STORED_SIZE, Stop, TakeError};
 
 // The room for what may be stored before an input: two digits for each stored byte.
 const STORED_TEXT: usize = 2 * STORED_SIZE;
 
-// What `list` answers: the length of the text, or number 2 or 9.
-#[derive(Clone, Copy)]
-pub enum Lines {
-    Done(usize),
-    ShortOutput,
-    Inconsistent,
-}
-
-impl Lines {
-    // The number of the answer (document 01, 'Numbers given back').
-    pub fn number(self) -> u32
-        ensures { result ≡ (lines_answer self).number }
-    {
-        match self {
-            Lines::Done(_) => 0,
-            Lines::ShortOutput => 2,
-            Lines::Inconsistent => 9,
-        }
-    }
-
-    // The value that comes with it; 0 where there is none.
-    pub fn value(self) -> usize
-        ensures { result ≡ value_of (lines_answer self) }
-    {
-        match self {
-            Lines::Done(n) => n,
-            Lines::ShortOutput => 0,
-            Lines::Inconsistent => 0,
-        }
-    }
-}
-
-// The answer, how many packets were listed, and the state after it.
-#[derive(Clone, Copy)]
+// The answer, which is the length of the text or the refusal, how many packets were listed, and the state after it.
+#[derive(Clone, Copy, Debug, PartialEq, Eq)]
 pub struct Listed {
-    pub answer: Lines,
+    pub answer: Result<usize, TakeError>,
     pub packets: usize,
     pub state: Receiver,
 }
@@ -58,26 +26,26 @@ pub struct Listed {
 fn has_room(size: usize, room: usize) -> bool
     ensures { result ≡ roomy size room }
 {
-    if room < STORED_TEXT {
-        return false;
-    }
-    size <= (room - STORED_TEXT) / 2
+    room.checked_sub(STORED_TEXT)
+        .is_some_and(|left| size <= left / 2)
 }
 
 // What the line of a packet makes of a text: the place behind it, and the packets, one or none.
-#[derive(Clone, Copy)]
+#[derive(Clone, Copy, Debug, PartialEq, Eq)]
 struct Added {
     used: usize,
     packets: usize,
 }
 
 // Puts the line of the packet that the taker copied to the start of `room`, if it handed one out, behind the `used` bytes of the output.
-fn put_packet(reason: Reason, room: &[u8], out: &mut [u8], used: usize) -> Added
+// `out` and `used` go side by side, as a text's place goes beside its output everywhere: `text::put` says why.
+#[tactic(auto, using(checks::proofs::Output::put_none), unfolding(crate::specs::Text::lines_of))]
+fn put_packet(reason: Result<Stop, TakeError>, room: &[u8], out: &mut [u8], used: usize) -> Added
     requires { CopiedWithin reason room.now × (used + length (lines_of (copied_out reason room.now)) ≤ length out.old) }
     ensures value { result ≡ added used (copied_out reason room.now) }
     ensures out_after { out.new ≡ put_at used (lines_of (copied_out reason room.now)) out.old }
 {
-    if let Reason::Packet(n) = reason {
+    if let Ok(Stop::Packet(n)) = reason {
         let end = text::put_line(&room[..n], out, used);
         return Added {
             used: end,
@@ -88,7 +56,7 @@ fn put_packet(reason: Reason, room: &[u8], out: &mut [u8], used: usize) -> Added
 }
 
 // What a call of the taker adds: the bytes that it took, the place behind the text, the packets, and the state after it.
-#[derive(Clone, Copy)]
+#[derive(Clone, Copy, Debug, PartialEq, Eq)]
 struct Turn {
     taken: usize,
     used: usize,
@@ -104,14 +72,12 @@ fn list_next(receiver: Receiver, input: &[u8], out: &mut [u8], used: usize) -> T
 {
     let mut room = [0u8; PACKET_MOST];
     let t = receiver.take(input, input.len(), &mut room);
-    let reason = t.reason;
-    let state = t.state;
-    let line = put_packet(reason, &room, out, used);
+    let line = put_packet(t.reason, &room, out, used);
     Turn {
         taken: t.taken,
         used: line.used,
         packets: line.packets,
-        state,
+        state: t.state,
     }
 }
 
@@ -125,19 +91,18 @@ fn list_all(receiver: Receiver, input: &[u8], out: &mut [u8]) -> Listed
     ensures out_after { out.new ≡ at_start (lines_of (heard receiver input.now)) out.old }
 {
     let mut state = receiver;
-    let mut place = 0;
+    let mut rest = input;
     let mut used = 0;
     let mut packets = 0;
-    while place < input.len() {
-        let turn = list_next(state, &input[place..], out, used);
-        place += turn.taken;
+    while !rest.is_empty() {
+        let turn = list_next(state, rest, out, used);
+        rest = &rest[turn.taken..];
         used = turn.used;
         packets += turn.packets;
-        let next = turn.state;
-        state = next;
+        state = turn.state;
     }
     Listed {
-        answer: Lines::Done(used),
+        answer: Ok(used),
         packets,
         state,
     }
@@ -148,6 +113,7 @@ fn list_all(receiver: Receiver, input: &[u8], out: &mut [u8]) -> Listed
 // refuses an inconsistent state (Inconsistent, number 9), and a fresh one comes back; then an output shorter than twice the input and 518 bytes
 // (ShortOutput, number 2), and the state that went in comes back. A refusal feeds no byte and writes nothing, and the bytes beyond the text keep
 // their content.
+#[tactic(auto, unfolding(crate::specs::Listing::list_answer, crate::specs::Listing::listed, crate::specs::Listing::state_after, crate::specs::Text::lines_of))]
 pub fn list(receiver: Receiver, input: &[u8], out: &mut [u8]) -> Listed
     ensures answer_value { lines_answer result.answer ≡ list_answer input.now (length out.old) receiver }
     ensures within { Within result.answer out.new }
@@ -155,20 +121,19 @@ pub fn list(receiver: Receiver, input: &[u8], out: &mut [u8]) -> Listed
     ensures state_value { result.state ≡ state_after input.now (length out.old) receiver }
     ensures out_after { out.new ≡ at_start (lines_of (listed input.now (length out.old) receiver)) out.old }
 {
-    if receiver.consistent() {
-        if has_room(input.len(), out.len()) {
-            return list_all(receiver, input, out);
-        }
+    if !receiver.consistent() {
         return Listed {
-            answer: Lines::ShortOutput,
+            answer: Err(TakeError::Inconsistent),
+            packets: 0,
+            state: Receiver::fresh(),
+        };
+    }
+    if !has_room(input.len(), out.len()) {
+        return Listed {
+            answer: Err(TakeError::ShortOutput),
             packets: 0,
             state: receiver,
         };
     }
-    let state = Receiver::fresh();
-    Listed {
-        answer: Lines::Inconsistent,
-        packets: 0,
-        state,
-    }
+    list_all(receiver, input, out)
 }

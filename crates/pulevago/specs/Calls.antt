@@ -1,9 +1,9 @@
--- What the calls on a lent state answer where no function below has an answer enum for it: whether it could be made fresh, whether it is one, and why the
+-- What the calls on a lent state answer where no function below answers a Result for it: whether it could be made fresh, whether it is one, and why the
 -- taker stopped. Assumes nothing.
-use Rattle.std.specs.Prelude.{ℕ, Bool, cond, List, []}
+use Rattle.std.specs.Prelude.{ℕ, Bool, cond, List, [], Ok, Err}
 use Rattle.checks.specs.Numbers.{Answer, answer, done, inconsistent}
-use Rattle.serial.specs.declared.taker.Reason.{Reason}
-use Rattle.serial.specs.declared.taker.Reason.TheVariants.{Packet, InputEnded, AllowanceSpent, ShortOutput, Inconsistent}
+use Rattle.serial.specs.declared.taker.Stop.TheVariants.{Packet, InputEnded, AllowanceSpent}
+use Rattle.serial.specs.Taker.{Reason}
 use Rattle.state.specs.InBuffer.{holds_state}
 use Rattle.state.specs.State.{sized}
 
@@ -21,8 +21,7 @@ test_answer bytes = done_where (holds_state bytes)
 
 -- why the taker stopped: a packet, the input's end, the allowance's. Of a refusal none is given
 abbrev pub reason_number : Reason → ℕ
-reason_number (Packet n) = 0
-reason_number InputEnded = 1
-reason_number AllowanceSpent = 2
-reason_number ShortOutput = 0
-reason_number Inconsistent = 0
+reason_number (Ok (Packet n)) = 0
+reason_number (Ok InputEnded) = 1
+reason_number (Ok AllowanceSpent) = 2
+reason_number (Err e) = 0

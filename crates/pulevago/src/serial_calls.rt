@@ -1,20 +1,21 @@
 // The serial wire: the frame writer, and the receiver over a lent state.
-ghost use Rattle.std.specs.Prelude.{◌≡◌, cond, eqb, length};
+ghost use Rattle.std.specs.Prelude.{◌≡◌, Ok, length};
 ghost use Rattle.checks.specs.Numbers.{value_of};
 ghost use Rattle.checks.specs.Output.{at_start};
 ghost use Rattle.framing.specs.Writer.{writer_answer};
 ghost use Rattle.framing.specs.Frame.{frame};
+ghost use Rattle.serial.specs.Answers.{reason_answer};
 ghost use Rattle.serial.specs.Receiver.{fresh_of};
-ghost use Rattle.state.specs.InBuffer.{handed_part, packet_place, step_answer_in, step_leaves, take_answer_in, take_leaves, take_output, taken_in};
+ghost use Rattle.state.specs.InBuffer.{handed_part, step_answer_in, step_leaves, take_answer_in, take_leaves, take_output, taken_in};
 ghost use Rattle.state.specs.State.{left};
 ghost use Rattle.pulevago.specs.Calls.{done_where, fresh_answer, reason_number, test_answer};
 ghost use Rattle.pulevago.specs.Lent.{given};
 
 use checks::DONE;
-use serial::{Outcome, Reason, Receiver};
+use serial::{Inconsistent, Receiver, Stop};
 use state::{PACKET_AT, STATE_SIZE, load, store};
 
-// Why the taker stopped.
+// Why the taker stopped, in numbers: C reads them.
 const TOOK_PACKET: u8 = 0;
 
 const INPUT_ENDED: u8 = 1;
@@ -33,24 +34,20 @@ pub extern "C" fn pulevago_frame_to_serial(
     ensures out_after { out.new ≡ given result out.old (at_start (frame packet.now) out.old) }
     ensures written_after { written.new ≡ given result written.old (value_of (writer_answer packet.now (length out.old))) }
 {
-    let answer = framing::frame_to_serial(packet, out);
-    let number = answer.number();
-    if number == DONE {
-        *written = answer.value();
-        return number;
+    match framing::frame_to_serial(packet, out) {
+        Ok(length) => {
+            *written = length;
+            DONE
+        }
+        Err(refusal) => u32::from(refusal),
     }
-    number
 }
 
 // Done where a test on a state holds, else number 9.
 fn done_where(test: bool) -> u32
     ensures { result ≡ (done_where test).number }
 {
-    if test {
-        return DONE;
-    }
-    let refused = Outcome::Inconsistent;
-    refused.number()
+    if test { DONE } else { u32::from(Inconsistent) }
 }
 
 // Makes the lent state a fresh receiver's, whatever stood there. It refuses a buffer that has not 263 bytes (number 9), and leaves it as it is.
@@ -72,16 +69,6 @@ pub extern "C" fn pulevago_receiver_consistent(state: &[u8]) -> u32
     done_where(load(state).consistent())
 }
 
-// Where a packet of so many bytes that was handed out begins in a lent state; no packet has none, so for none it is 0.
-fn place_of(size: usize) -> usize
-    ensures { result ≡ cond (eqb size 0) 0 packet_place }
-{
-    if size == 0 {
-        return 0;
-    }
-    PACKET_AT
-}
-
 // Feeds one byte to the receiver in the lent state. A packet that it ends stands in the state, `size` bytes from `place` on, until the next byte is fed;
 // without one both are 0. It refuses bytes that are no consistent state (number 9): where they are 263 a fresh one stands there then, and any other buffer
 // is left as it is. The byte is not looked at, and place and size stay as they are.
@@ -97,27 +84,29 @@ pub extern "C" fn pulevago_receiver_step(
     ensures place_after { place.new ≡ given result place.old (handed_part (step_answer_in byte state.old).values).place }
     ensures size_after { size.new ≡ given result size.old (handed_part (step_answer_in byte state.old).values).size }
 {
-    let outcome = state::step(state, byte);
-    let number = outcome.number();
-    if number == DONE {
-        let handed = outcome.value();
-        *place = place_of(handed);
-        *size = handed;
-        return number;
+    match state::step(state, byte) {
+        Ok(Some(handed)) => {
+            *place = PACKET_AT;
+            *size = handed;
+            DONE
+        }
+        Ok(None) => {
+            *place = 0;
+            *size = 0;
+            DONE
+        }
+        Err(refusal) => u32::from(refusal),
     }
-    number
 }
 
-// Why the taker stopped, where it did not refuse.
-fn reason_of(reason: Reason) -> u8
-    ensures { result ≡ reason_number reason }
+// What is told of why the taker stopped: its number, and the packet's length, which is 0 where there is none.
+fn told(stop: Stop) -> (u8, usize)
+    ensures { (result.0 ≡ reason_number (Ok stop)) × (result.1 ≡ value_of (reason_answer (Ok stop))) }
 {
-    match reason {
-        Reason::Packet(_) => TOOK_PACKET,
-        Reason::InputEnded => INPUT_ENDED,
-        Reason::AllowanceSpent => ALLOWANCE_SPENT,
-        Reason::ShortOutput => TOOK_PACKET,
-        Reason::Inconsistent => TOOK_PACKET,
+    match stop {
+        Stop::Packet(n) => (TOOK_PACKET, n),
+        Stop::InputEnded => (INPUT_ENDED, 0),
+        Stop::AllowanceSpent => (ALLOWANCE_SPENT, 0),
     }
 }
 
@@ -143,13 +132,14 @@ pub extern "C" fn pulevago_receiver_take(
     ensures size_after { size.new ≡ given result size.old (value_of (take_answer_in input.now allowance (length out.old) state.old)) }
 {
     let took = state::take(state, input, allowance, out);
-    let why = took.reason;
-    let number = why.number();
-    if number == DONE {
-        *reason = reason_of(why);
-        *taken = took.taken;
-        *size = why.value();
-        return number;
+    match took.reason {
+        Ok(stop) => {
+            let (why, packet) = told(stop);
+            *reason = why;
+            *taken = took.taken;
+            *size = packet;
+            DONE
+        }
+        Err(refusal) => u32::from(refusal),
     }
-    number
 }

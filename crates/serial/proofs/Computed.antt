@@ -6,7 +6,7 @@ use lib.ListN.{get_or}
 use Rattle.checks.specs.Register.{bit_step, bit_steps, byte_step, check_from}
 use Rattle.framing.specs.Frame.{escaped, escaped_all, frame}
 use Rattle.serial.specs.declared.receiver.Receiver.{Receiver}
-use Rattle.serial.specs.Computed.{Fitting, NotFitting, NotFresh, OutcomeTold, PacketHandedOut, PositionsTold, ReasonTold, StepRefuses, TakerAtLimits}
+use Rattle.serial.specs.Computed.{Fitting, NotFitting, NotFresh, OutcomeTold, PacketHandedOut, PositionsTold, ReasonTold, RefusalsTold, StepRefuses, TakerAtLimits}
 use Rattle.serial.specs.Receiver.{agrees_of, consistent_of, fits_at, position_number, row_of, step_of}
 use Rattle.serial.specs.Taker.{copied_of, take_from, taken_of}
 
@@ -44,3 +44,6 @@ outcome_told n = (refl, refl, refl, refl, refl, refl)
 
 pub reason_told : ReasonTold
 reason_told n = (refl, refl, refl, refl, refl, refl, refl, refl, refl, refl)
+
+pub refusals_told : RefusalsTold
+refusals_told = (refl, refl, refl)

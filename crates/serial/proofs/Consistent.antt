@@ -1,9 +1,9 @@
 -- What a consistent state says, as facts instead of a test, and the way back: each part of the test is true exactly where its fact holds.
 -- Assumes nothing.
 use Prim.Native.Nat.{ℕ, ◌+◌, ◌≤◌}
-use mathlib.Core.Path.{◌≡◌, ◌∙◌, ap, refl, subst, sym}
+use mathlib.Core.Path.{◌≡◌, refl, subst, sym}
 use mathlib.Core.Bool.{true, ◌&&◌, ◌||◌}
-use mathlib.Core.Logic.{◌⊎◌, ⊎_elim, inl, inr}
+use mathlib.Core.Logic.{◌⊎◌, ◌≢◌, ⊎_elim, inl, inr}
 use mathlib.Core.List.{List}
 use native.Mathlib.Nat.{eq-or-lt_of_le}
 use native.Mathlib.Omega.{arith}
@@ -14,8 +14,8 @@ use Rattle.checks.proofs.Choice.{and, either, first, left, right, second}
 use Rattle.serial.specs.declared.receiver.Position.{Position}
 use Rattle.serial.specs.declared.receiver.Position.TheVariants.{FrameSearch, SerialRevision, ByteCount, Data, DataEscaped, Check, FrameEnd}
 use Rattle.serial.specs.declared.receiver.Receiver.{Receiver}
-use Rattle.framing.specs.Frame.{revision}
-use Rattle.serial.specs.Receiver.{consistent_of, counted, fits_at, in_packet, row_of, step_of}
+use Rattle.framing.specs.Frame.{packet_most, revision}
+use Rattle.serial.specs.Receiver.{HasRoom, consistent_of, counted, fits_at, in_packet, row_of, step_of}
 
 -- ---- facts, of a count n, a length l and the stored bytes
 
@@ -123,10 +123,18 @@ module _ (s : Receiver) (h : consistent_of s ≡ true) (p : Position) (e : s.pos
   pub here_at : FitsAt p s.count s.len s.stored
   here_at = subst (λ (q : Position). FitsAt q s.count s.len s.stored) e (facts s h).here
 
-  pub row_at : (b : ℕ) → row_of p b s ≡ step_of b s
-  row_at b = ap (λ (q : Position). row_of q b s) (sym e) ∙ sym (row-of s b h)
+-- a consistent state has room in each position whose row stores a byte
+pub has_room : (s : Receiver) → consistent_of s ≡ true → s.position ≢ FrameSearch → s.position ≢ SerialRevision → s.position ≢ FrameEnd → HasRoom s
+has_room s h a b c = go s.position refl (facts s h).count_most (facts s h).here
+  where
+    go : (p : Position) → s.position ≡ p → s.count ≤ 255 → FitsAt p s.count s.len s.stored → HasRoom s
+    go FrameSearch e most f = absurd (a e)
+    go SerialRevision e most f = absurd (b e)
+    go ByteCount e most f = record { len_below = omega arith; count_most = most }
+    go Data e most f = record { len_below = omega arith; count_most = most }
+    go DataEscaped e most f = record { len_below = omega arith; count_most = most }
+    go Check e most f = record { len_below = omega arith; count_most = most }
+    go FrameEnd e most f = absurd (c e)
 
--- within the bounds the test is that of the position
-pub at_position : (s : Receiver) (p : Position) → s.len ≤ 259 → s.count ≤ 255 → s.position ≡ p → fits_at p s ≡ consistent_of s
-unfolding consistent_of
-at_position s p h k e = simp (le-leb _ _ h, le-leb _ _ k, e)
+pub count_bounded : (s : Receiver) → consistent_of s ≡ true → s.count ≤ packet_most
+count_bounded s h = (facts s h).count_most

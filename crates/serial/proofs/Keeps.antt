@@ -7,6 +7,7 @@ use mathlib.Core.Bool.{Bool, cond}
 use mathlib.Core.List.{List, [], ◌∷◌}
 use native.Mathlib.Omega.{arith}
 use lib.Dec.{eqb}
+use Rattle.std.proofs.Common.{Err}
 use lib.ListN.{length, get_or, set, length-replicate, length-set}
 use lib.Seq.{get_or-set_other, get_or-set_same}
 use borrow.Author.Tests.{eqb-false, eqb-true}
@@ -17,7 +18,6 @@ use Rattle.checks.proofs.Numbers.{same_number}
 use Rattle.serial.specs.declared.receiver.Position.{Position}
 use Rattle.serial.specs.declared.receiver.Position.TheVariants.{FrameSearch, SerialRevision, ByteCount, Data, DataEscaped, Check, FrameEnd}
 use Rattle.serial.specs.declared.receiver.Receiver.{Receiver}
-use Rattle.serial.specs.declared.receiver.Outcome.TheVariants.{Inconsistent}
 use Rattle.serial.specs.declared.receiver.Stepped.{Stepped}
 use Rattle.framing.specs.Frame.{flag, escape, flag_escaped, escape_escaped, revision}
 use Rattle.serial.specs.Receiver.{byte_count_row, check_row, data_escaped_row, data_row, frame_end_row, frame_search_row, fresh_of, hands_out, move_to, row_of, serial_revision_row, step_of, store_data}
@@ -135,4 +135,4 @@ pub never_inconsistent : NeverInconsistent
 never_inconsistent h b bytes =
     let s = run_of fresh_of h in
     same_number (step_answered b s (step_of b s) refl).1
-    ∙ ap (λ (t : Bool). (cond t (answer done (handed_at s.position b s)) (outcome_answer Inconsistent)).number) (reachable_consistent h bytes).fits
+    ∙ ap (λ (t : Bool). (cond t (answer done (handed_at s.position b s)) (outcome_answer (Err record {}))).number) (reachable_consistent h bytes).fits

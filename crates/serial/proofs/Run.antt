@@ -6,10 +6,9 @@ use mathlib.Core.List.{List, [], ◌∷◌, ◌++◌}
 use native.Mathlib.Nat.{add-zero}
 use native.Mathlib.Omega.{arith}
 use lib.ListN.{length}
+use Rattle.std.proofs.Common.{None, Some, Ok, Err}
 use Rattle.serial.specs.declared.receiver.Receiver.{Receiver}
-use Rattle.serial.specs.declared.receiver.Outcome.{Outcome}
-use Rattle.serial.specs.declared.receiver.Outcome.TheVariants.{Nothing, Packet, Inconsistent}
-use Rattle.serial.specs.Receiver.{step_of}
+use Rattle.serial.specs.Receiver.{Outcome, step_of}
 use Rattle.serial.specs.Run.{emit, heard, outs_by, outs_of, packet_in, packets_of, run_by, run_of}
 
 pub run_append : (s : Receiver) (xs ys : List ℕ) → run_of s (xs ++ ys) ≡ run_of (run_of s xs) ys
@@ -19,9 +18,9 @@ run_append s (x ∷ xs) ys = run_append (step_of x s).state xs ys
 
 emit_append : (o : Outcome) (s : Receiver) (i : ℕ) (outs more : List (ℕ × List ℕ))
     → emit o s i (outs ++ more) ≡ emit o s i outs ++ more
-emit_append Nothing s i outs more = refl
-emit_append (Packet n) s i outs more = refl
-emit_append Inconsistent s i outs more = refl
+emit_append (Ok None) s i outs more = refl
+emit_append (Ok (Some n)) s i outs more = refl
+emit_append (Err e) s i outs more = refl
 
 pub outs_append : (i : ℕ) (s : Receiver) (xs ys : List ℕ)
     → outs_of i s (xs ++ ys) ≡ outs_of i s xs ++ outs_of (i + length xs) (run_of s xs) ys
@@ -44,9 +43,9 @@ packets_append (o ∷ os) ps = ap (λ (rest : List (List ℕ)). o.1 ∷ rest) (p
 emit_packets : (o : Outcome) (s : Receiver) (i j : ℕ) (os ps : List (ℕ × List ℕ)) → packets_of os ≡ packets_of ps
     → packets_of (emit o s i os) ≡ packets_of (emit o s j ps)
 unfolding packets_of
-emit_packets Nothing s i j os ps e = e
-emit_packets (Packet n) s i j os ps e = ap (λ (rest : List (List ℕ)). packet_in n s ∷ rest) e
-emit_packets Inconsistent s i j os ps e = e
+emit_packets (Ok None) s i j os ps e = e
+emit_packets (Ok (Some n)) s i j os ps e = ap (λ (rest : List (List ℕ)). packet_in n s ∷ rest) e
+emit_packets (Err x) s i j os ps e = e
 
 -- they don't depend on where the count of places begins
 pub any_place : (i j : ℕ) (s : Receiver) (bytes : List ℕ) → packets_of (outs_of i s bytes) ≡ packets_of (outs_of j s bytes)

@@ -6,6 +6,7 @@ use mathlib.Core.List.{List, [], ◌∷◌, ◌++◌}
 use native.Mathlib.Nat.{le_refl, min-le_left, min-le_right, zero-add}
 use native.Mathlib.Omega.{arith}
 use lib.Dec.{ltb}
+use Rattle.std.proofs.Common.{None, Some, Ok, Err}
 use lib.ListN.{length, take, drop, length-take, take-append-drop}
 use lib.Seq.{length-take-le, take-take}
 use borrow.Author.Tests.{le-ltb}
@@ -13,12 +14,10 @@ use Rattle.checks.specs.Laws.{Bytes}
 use Rattle.checks.proofs.Choice.{by_cond}
 use Rattle.checks.proofs.Bytes.{bytes_take}
 use Rattle.serial.specs.declared.receiver.Receiver.{Receiver}
-use Rattle.serial.specs.declared.receiver.Outcome.{Outcome}
-use Rattle.serial.specs.declared.receiver.Outcome.TheVariants.{Nothing, Packet, Inconsistent}
-use Rattle.serial.specs.declared.taker.Reason.TheVariants.{ShortOutput, Inconsistent as Refused}
+use Rattle.serial.specs.declared.taker.TakeError.TheVariants.{ShortOutput, Inconsistent}
 use Rattle.serial.specs.declared.taker.Taken.{Taken}
 use Rattle.serial.specs.Consistency.{Consistent}
-use Rattle.serial.specs.Receiver.{fresh_of, step_of}
+use Rattle.serial.specs.Receiver.{Outcome, fresh_of, step_of}
 use Rattle.serial.specs.Run.{emit, outs_by, outs_of, run_by, run_of}
 use Rattle.serial.specs.Steps.{Call, CountIsSteps, Steps, called, handed}
 use Rattle.serial.specs.Taker.{after_step, stop, take_from, taken_of}
@@ -61,7 +60,7 @@ module _ (b : ℕ) (bs : List ℕ) (k : ℕ) (s : Receiver) (n : ℕ) (t : Taken
 
   after : (o : Outcome) → (step_of b s).outcome ≡ o → Made (b ∷ bs) (suc k) s n (after_step o (step_of b s).state (n + 1) t)
   unfolding run_by outs_by
-  after Nothing f = record {
+  after (Ok None) f = record {
     m = suc d.m;
     count = (let e = d.count in omega arith);
     within = suc-le-suc d.within;
@@ -72,8 +71,8 @@ module _ (b : ℕ) (bs : List ℕ) (k : ℕ) (s : Receiver) (n : ℕ) (t : Taken
         ap (λ (x : Outcome). emit x (step_of b s).state i (outs_of (i + 1) (step_of b s).state (take d.m bs))) f
         ∙ d.outs (i + 1) ∙ ap (λ (j : ℕ). handed t.reason t.state j []) place;
   }
-  after (Packet j) f = one (Packet j) _ f refl refl (λ i. refl)
-  after Inconsistent f = one Inconsistent _ f refl refl (λ i. refl)
+  after (Ok (Some j)) f = one (Ok (Some j)) _ f refl refl (λ i. refl)
+  after (Err x) f = one (Err x) _ f refl refl (λ i. refl)
 
 made : (xs : List ℕ) (k : ℕ) (s : Receiver) (n : ℕ) → Made xs k s n (take_from xs k s n)
 unfolding take_from
@@ -95,9 +94,9 @@ steps xs k s t d =
 pub count_is_steps : CountIsSteps
 unfolding taken_of
 count_is_steps input allowance room s c =
-    subst (λ (t : Bool). Steps input allowance s (cond t (cond (ltb room 255) (stop ShortOutput 0 s) (take_from input allowance s 0)) (stop Refused 0 fresh_of)))
+    subst (λ (t : Bool). Steps input allowance s (cond t (cond (ltb room 255) (stop (Err ShortOutput) 0 s) (take_from input allowance s 0)) (stop (Err Inconsistent) 0 fresh_of)))
     (sym c.fits)
-    (by_cond (Steps input allowance s) (ltb room 255) (stop ShortOutput 0 s) (take_from input allowance s 0)
+    (by_cond (Steps input allowance s) (ltb room 255) (stop (Err ShortOutput) 0 s) (take_from input allowance s 0)
     (λ e. steps input allowance s _ (none input allowance s 0 _ refl refl (λ i. refl)))
     (λ e. steps input allowance s _ (made input allowance s 0)))
 
@@ -145,9 +144,9 @@ module _ (c : Call) (s : Receiver) (stream : List ℕ) (fits : Consistent s) whe
       ∙ ap (λ (u : Receiver). run_of u (drop taken stream)) (sym call_state)
 
 step_least : (o : Outcome) (s : Receiver) (n : ℕ) (t : Taken) → n ≤ t.taken → n ≤ (after_step o s n t).taken
-step_least Nothing s n t h = h
-step_least (Packet k) s n t h = le_refl n
-step_least Inconsistent s n t h = le_refl n
+step_least (Ok None) s n t h = h
+step_least (Ok (Some k)) s n t h = le_refl n
+step_least (Err x) s n t h = le_refl n
 
 -- a willing call takes a byte where there is one
 pub takes_one : (b : ℕ) (bs : List ℕ) (s : Receiver) (offered allowance room : ℕ) → Consistent s → 1 ≤ offered → 1 ≤ allowance → 255 ≤ room

@@ -1,57 +1,49 @@
 -- Laws of the taker's definition: a turn of its loop, where it stops, and the length of a packet that it hands out. Assumes nothing.
 use Prim.Native.Nat.{ℕ, zero, suc, ◌+◌, ◌-◌, ◌≤◌, ◌<◌}
 use mathlib.Core.Path.{◌≡◌, ◌∙◌, ap, refl, subst, sym}
-use mathlib.Core.Bool.{true, false}
 use mathlib.Core.List.{List, [], ◌∷◌}
 use native.Mathlib.Numerals.{add-one}
 use native.Mathlib.Omega.{arith}
 use lib.ListN.{length, drop, get_or, take, drop_of_length-le, length-drop}
 use lib.Seq.{drop-cons, length-take-le, take-nil}
-use borrow.Author.Tests.{le-ltb, lt-ltb}
+use Rattle.std.proofs.Common.{None, Some, Ok, Err}
 use Rattle.checks.specs.Laws.{Bytes}
 use Rattle.checks.specs.Numbers.{answer, done}
 use Rattle.checks.proofs.Choice.{by_cond}
 use Rattle.serial.specs.declared.receiver.Position.{Position}
 use Rattle.serial.specs.declared.receiver.Position.TheVariants.{FrameSearch, SerialRevision, ByteCount, Data, DataEscaped, Check, FrameEnd}
 use Rattle.serial.specs.declared.receiver.Receiver.{Receiver}
-use Rattle.serial.specs.declared.receiver.Outcome.{Outcome}
-use Rattle.serial.specs.declared.receiver.Outcome.TheVariants.{Nothing, Packet, Inconsistent}
 use Rattle.serial.specs.declared.receiver.Stepped.{Stepped}
-use Rattle.serial.specs.declared.taker.Cause.{Cause}
-use Rattle.serial.specs.declared.taker.Cause.TheVariants.{Packet as PacketEnds, InputEnded as EndedInput, AllowanceSpent as SpentAllowance}
-use Rattle.serial.specs.declared.taker.Reason.{Reason}
-use Rattle.serial.specs.declared.taker.Reason.TheVariants.{Packet as PacketTaken, InputEnded, AllowanceSpent, ShortOutput, Inconsistent as InconsistentTaken}
-use Rattle.serial.specs.declared.taker.Stopped.{Stopped}
+use Rattle.serial.specs.declared.taker.Stop.{Stop}
+use Rattle.serial.specs.declared.taker.Stop.TheVariants.{InputEnded, AllowanceSpent}
 use Rattle.serial.specs.declared.taker.Taken.{Taken}
-use Rattle.serial.specs.Answers.{first_length, reason_answer, taker_answer}
+use Rattle.serial.specs.Answers.{first_length, reason_answer}
 use Rattle.serial.specs.Consistency.{Consistent}
-use Rattle.serial.specs.Core.{Bounded, held, held_taken, last_of, reason_of}
-use Rattle.serial.specs.Receiver.{consistent_of, fresh_of, hands_out, row_of, step_of}
+use Rattle.serial.specs.Receiver.{Outcome, hands_out, row_of, step_of, stepped}
 use Rattle.serial.specs.Run.{emit, outs_by, outs_of, packet_in}
-use Rattle.serial.specs.Taker.{after_step, copied_of, stop, take_from, taken_of}
+use Rattle.serial.specs.Taker.{IsPacketSize, Reason, after_step, stop, take_from}
 use Rattle.serial.proofs.Consistent.{facts, row-of}
 use Rattle.serial.proofs.Keeps.{keeps}
 
 module _ (input : List ℕ) (allowance i : ℕ) (s : Receiver) where
   -- a step at place i, by its outcome
-  pub taken_next : (r : Stepped) (o : Outcome) → i < length input → i < allowance → r ≡ step_of (get_or input i 0) s → r.outcome ≡ o
-      → after_step o r.state (i + 1) (take_from (drop (i + 1) input) (allowance - (i + 1)) r.state (i + 1))
+  pub taken_next : (o : Outcome) (t : Receiver) → i < length input → i < allowance → stepped o t ≡ step_of (get_or input i 0) s
+      → after_step o t (i + 1) (take_from (drop (i + 1) input) (allowance - (i + 1)) t (i + 1))
       ≡ take_from (drop i input) (allowance - i) s i
   unfolding take_from
-  taken_next r o h k e f =
+  taken_next o t h k e =
       let more : allowance - i ≡ suc (allowance - (i + 1)) = omega arith in
-      ap (λ (x : Outcome). after_step x r.state (i + 1) (take_from (drop (i + 1) input) (allowance - (i + 1)) r.state (i + 1))) (sym f)
-      ∙ ap (λ (x : Stepped). after_step x.outcome x.state (i + 1) (take_from (drop (i + 1) input) (allowance - (i + 1)) x.state (i + 1))) e
+      ap (λ (x : Stepped). after_step x.outcome x.state (i + 1) (take_from (drop (i + 1) input) (allowance - (i + 1)) x.state (i + 1))) e
       ∙ ap (λ (n : ℕ). take_from (get_or input i 0 ∷ drop n input) (suc (allowance - (i + 1))) s i) (add-one i)
       ∙ rw (more, drop-cons input i 0)
 
   -- the input ends
-  pub taken_ended : length input ≤ i → stop InputEnded i s ≡ take_from (drop i input) (allowance - i) s i
+  pub taken_ended : length input ≤ i → stop (Ok InputEnded) i s ≡ take_from (drop i input) (allowance - i) s i
   unfolding take_from
   taken_ended h = ap (λ (xs : List ℕ). take_from xs (allowance - i) s i) (sym (drop_of_length-le input {i = i} h))
 
   -- the allowance is spent before it
-  pub taken_spent : i < length input → allowance ≤ i → stop AllowanceSpent i s ≡ take_from (drop i input) (allowance - i) s i
+  pub taken_spent : i < length input → allowance ≤ i → stop (Ok AllowanceSpent) i s ≡ take_from (drop i input) (allowance - i) s i
   unfolding take_from
   taken_spent h k =
       let none : allowance - i ≡ 0 = omega arith in
@@ -61,9 +53,9 @@ module _ (input : List ℕ) (allowance i : ℕ) (s : Receiver) where
 
 -- a step gives a packet of at most 255 bytes or nothing, and no refusal
 abbrev FairOutcome : Outcome → Type 0
-FairOutcome Nothing = Unit {0}
-FairOutcome (Packet n) = n ≤ 255
-FairOutcome Inconsistent = ⊥
+FairOutcome (Ok None) = Unit {0}
+FairOutcome (Ok (Some n)) = n ≤ 255
+FairOutcome (Err x) = ⊥
 
 fair_row : (p : Position) (b : ℕ) (s : Receiver) → s.count ≤ 255 → FairOutcome (row_of p b s).outcome
 unfolding row_of
@@ -82,16 +74,13 @@ fair_step b s c =
 
 -- so a packet that the taker hands out has at most 255 bytes
 abbrev pub Few : Reason → Type 0
-Few (PacketTaken n) = n ≤ 255
-Few InputEnded = Unit {0}
-Few AllowanceSpent = Unit {0}
-Few ShortOutput = Unit {0}
-Few InconsistentTaken = Unit {0}
+Few (Ok why) = IsPacketSize why
+Few (Err x) = Unit {0}
 
 few_after : (o : Outcome) (s : Receiver) (n : ℕ) (more : Taken) → FairOutcome o → Few more.reason → Few (after_step o s n more).reason
-few_after Nothing s n more h k = k
-few_after (Packet j) s n more h k = h
-few_after Inconsistent s n more h k = tt
+few_after (Ok None) s n more h k = k
+few_after (Ok (Some j)) s n more h k = h
+few_after (Err x) s n more h k = tt
 
 few : (input : List ℕ) (allowance : ℕ) (s : Receiver) (n : ℕ) → Consistent s → Bytes input → Few (take_from input allowance s n).reason
 unfolding take_from
@@ -108,9 +97,9 @@ packet_length s n sized few = length-take-le n (drop 2 s.stored) (omega (arith, 
 after_answer : (o : Outcome) (s : Receiver) (n i : ℕ) (more : Taken) (outs : List (ℕ × List ℕ)) → length s.stored ≡ 259 → FairOutcome o
     → reason_answer more.reason ≡ answer done (first_length outs)
     → reason_answer (after_step o s n more).reason ≡ answer done (first_length (emit o s i outs))
-after_answer Nothing s n i more outs sized few h = h
-after_answer (Packet j) s n i more outs sized few h = ap (λ (k : ℕ). answer done (k ∷ [])) (sym (packet_length s j sized few))
-after_answer Inconsistent s n i more outs sized few h = absurd few
+after_answer (Ok None) s n i more outs sized few h = h
+after_answer (Ok (Some j)) s n i more outs sized few h = ap (λ (k : ℕ). answer done (k ∷ [])) (sym (packet_length s j sized few))
+after_answer (Err x) s n i more outs sized few h = absurd few
 
 -- the taker answers the first packet that one pass over the bytes allowed hands out
 first_answer : (input : List ℕ) (allowance : ℕ) (s : Receiver) (n i : ℕ) → Consistent s → Bytes input
@@ -125,84 +114,13 @@ first_answer (b ∷ bs) (suc allowance) s n i c h =
     (first_answer bs allowance next (n + 1) (i + 1) kept (λ i. h (suc i)))
 
 -- both, of what is taken from a state
-abbrev pub Took : List ℕ → ℕ → Receiver → Taken → Type 0
-Took input allowance s t = Few t.reason × (reason_answer t.reason ≡ answer done (first_length (outs_of 0 s (take allowance input))))
+pub record Took (input : List ℕ) (allowance : ℕ) (s : Receiver) (why : Stop) : Type 0 where
+  pub few_bytes : IsPacketSize why
+  pub first_packet : reason_answer (Ok why) ≡ answer done (first_length (outs_of 0 s (take allowance input)))
 
-pub took : (input : List ℕ) (allowance : ℕ) (s : Receiver) → Consistent s → Bytes input → Took input allowance s (take_from input allowance s 0)
-took input allowance s c h = (few input allowance s 0 c h, first_answer input allowance s 0 0 c h)
-
--- what the core's loop promises, with the definition's result
-bounded : (c : Cause) → Few (reason_of c) → Bounded c
-bounded (PacketEnds n) h = h
-bounded EndedInput h = tt
-bounded SpentAllowance h = tt
-
-pub stopped_from : (input : List ℕ) (allowance : ℕ) (s t : Receiver) (c : Cause) (n : ℕ) → stop (reason_of c) n t ≡ take_from input allowance s 0
-    → Took input allowance s (take_from input allowance s 0)
-    → (stop (reason_of c) n t ≡ take_from input allowance s 0)
-    × (Bounded c × (reason_answer (reason_of c) ≡ answer done (first_length (outs_of 0 s (take allowance input)))))
-stopped_from input allowance s t c n e h =
-    let here = subst (Took input allowance s) (sym e) h in
-    (e, (bounded c here.0, here.1))
-
--- ---- taking one byte is a step
-
--- the last step made, of what was taken
-back : Reason → Outcome
-back (PacketTaken n) = Packet n
-back InputEnded = Nothing
-back AllowanceSpent = Nothing
-back ShortOutput = Inconsistent
-back InconsistentTaken = Inconsistent
-
-abbrev stepped : Taken → Stepped
-stepped t = record { outcome = back t.reason; state = t.state }
-
-last_step : (o : Outcome) (s : Receiver) → stepped (after_step o s 1 (stop InputEnded 1 s)) ≡ record { outcome = o; state = s }
-unfolding back
-last_step Nothing s = refl
-last_step (Packet n) s = refl
-last_step Inconsistent s = refl
-
-last_back : (c : Cause) → last_of c ≡ back (reason_of c)
-unfolding back
-last_back (PacketEnds n) = refl
-last_back EndedInput = refl
-last_back SpentAllowance = refl
-
-pub one_taken : (b : ℕ) (s : Receiver) (t : Stopped) (stored : List ℕ) → held_taken t stored ≡ take_from (b ∷ []) 1 s 0
-    → record { outcome = last_of t.cause; state = held t.head stored } ≡ step_of b s
-unfolding take_from
-one_taken b s t stored e =
-    ap (λ (o : Outcome). record { outcome = o; state = held t.head stored }) (last_back t.cause)
-    ∙ ap stepped e ∙ last_step (step_of b s).outcome (step_of b s).state
-
--- ---- what the taker says
-
--- its result, the output that it leaves, and its answer
-abbrev Said : List ℕ → ℕ → Receiver → List ℕ → Taken → List ℕ → Type 0
-Said input allowance s out t left =
-    (t ≡ taken_of input allowance (length out) s)
-    × ((left ≡ copied_of t.reason t.state out) × (reason_answer t.reason ≡ taker_answer input allowance (length out) s))
-
-module _ (input : List ℕ) (allowance : ℕ) (s : Receiver) (out : List ℕ) (t : Taken) where
-  -- of bytes taken
-  pub taken_said : (left : List ℕ) → consistent_of s ≡ true → 255 ≤ length out → t ≡ take_from input allowance s 0
-      → reason_answer t.reason ≡ answer done (first_length (outs_of 0 s (take allowance input))) → left ≡ copied_of t.reason t.state out
-      → Said input allowance s out t left
-  unfolding taken_of
-  taken_said left c room e f g = (simp (c, le-ltb (length out) 255 room) e, (g, simp (c, le-ltb (length out) 255 room) f))
-
-  -- too little room
-  pub short_said : consistent_of s ≡ true → length out < 255 → t ≡ stop ShortOutput 0 s → Said input allowance s out t out
-  unfolding taken_of copied_of
-  short_said c room e = (
-    simp (c, lt-ltb (length out) 255 room) e,
-    (ap (λ (u : Taken). copied_of u.reason u.state out) (sym e), simp (c, lt-ltb (length out) 255 room) (ap (λ (u : Taken). reason_answer u.reason) e)),
-  )
-
-  -- an inconsistent state
-  pub inconsistent_said : consistent_of s ≡ false → t ≡ stop InconsistentTaken 0 fresh_of → Said input allowance s out t out
-  unfolding taken_of copied_of
-  inconsistent_said c e =
-      (simp c e, (ap (λ (u : Taken). copied_of u.reason u.state out) (sym e), simp c (ap (λ (u : Taken). reason_answer u.reason) e)))
+pub took : (input : List ℕ) (allowance : ℕ) (s : Receiver) (why : Stop) (n : ℕ) (t : Receiver) → Consistent s → Bytes input
+    → stop (Ok why) n t ≡ take_from input allowance s 0 → Took input allowance s why
+took input allowance s why n t c h e = record {
+  few_bytes = subst (λ (x : Taken). Few x.reason) (sym e) (few input allowance s 0 c h);
+  first_packet = ap (λ (x : Taken). reason_answer x.reason) e ∙ first_answer input allowance s 0 0 c h;
+}

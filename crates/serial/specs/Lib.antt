@@ -1,6 +1,5 @@
 pub mod Receiver
 pub mod Run
-pub mod Core
 pub mod Taker
 pub mod Steps
 pub mod Answers

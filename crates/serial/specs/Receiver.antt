@@ -1,12 +1,13 @@
 -- The serial receiver: document 01's table, row by row, and what makes a state consistent. The state is the code's own struct.
 -- Assumes nothing.
-use Rattle.std.specs.Prelude.{ℕ, ◌+◌, ◌*◌, Bool, true, cond, ◌&&◌, ◌||◌, List, [], ◌∷◌, eqb, leb, get_or, set, replicate, take}
+use Rattle.std.specs.Prelude.{ℕ, ◌+◌, ◌*◌, ◌<◌, ◌≤◌, ◌≡◌, Bool, true, cond, ◌&&◌, ◌||◌, List, [], ◌∷◌, Option, Some, None, Result, Ok, Err, MatchResult, eqb, leb, get_or, set, replicate, slice_get, take}
 use Rattle.checks.specs.FrameCheck.{frame_check}
 use Rattle.serial.specs.declared.receiver.Position.{Position}
 use Rattle.serial.specs.declared.receiver.Position.TheVariants.{FrameSearch, SerialRevision, ByteCount, Data, DataEscaped, Check, FrameEnd}
 use Rattle.serial.specs.declared.receiver.Receiver.{Receiver}
-use Rattle.serial.specs.declared.receiver.Outcome.TheVariants.{Nothing, Packet, Inconsistent}
+use Rattle.serial.specs.declared.receiver.Inconsistent.{Inconsistent}
 use Rattle.serial.specs.declared.receiver.Stepped.{Stepped}
+use Rattle.serial.specs.declared.receiver.UnknownPosition.{UnknownPosition}
 use Rattle.framing.specs.Frame.{escape, escape_escaped, flag, flag_escaped, packet_most, revision}
 
 -- ---- positions
@@ -24,6 +25,14 @@ position_number FrameEnd = 6
 -- the positions by their numbers
 abbrev pub positions : List Position
 positions = FrameSearch ∷ SerialRevision ∷ ByteCount ∷ Data ∷ DataEscaped ∷ Check ∷ FrameEnd ∷ []
+
+-- a byte is a position's number
+abbrev pub IsPositionNumber : Position → ℕ → Type 0
+IsPositionNumber p n = n ≡ position_number p
+
+-- what is read of a number: the position that has it, or the number itself where none has
+abbrev pub IsPositionOf : ℕ → Result Position UnknownPosition → Type 0
+IsPositionOf n r = MatchResult r (λ p. slice_get positions n ≡ Some p) (λ e. (e.0 ≡ n) × (slice_get positions n ≡ None))
 
 -- ---- states
 
@@ -63,6 +72,11 @@ begun b p s = changed p 0 1 (set s.stored 0 b) s
 abbrev pub with_count : ℕ → Receiver → Receiver
 with_count n s = changed s.position n s.len s.stored s
 
+-- room for one byte more, and a count that a packet can have
+pub record HasRoom (s : Receiver) : Type 0 where
+  pub len_below : s.len < stored_size
+  pub count_most : s.count ≤ packet_most
+
 -- ---- the table: the state that a byte leads to from each position
 
 abbrev pub frame_search_row : ℕ → Receiver → Receiver
@@ -96,9 +110,17 @@ unfoldable pub agrees_of : Receiver → Bool
 agrees_of s =
     eqb (frame_check (take (s.count + 2) s.stored)) (get_or s.stored (s.count + 2) 0 * 256 + get_or s.stored (s.count + 3) 0)
 
+-- what a step gives: nothing, a packet of so many bytes, or number 9
+abbrev pub Outcome : Type 0
+Outcome = Result (Option ℕ) Inconsistent
+
+-- it gives this, and leaves this state
+abbrev pub stepped : Outcome → Receiver → Stepped
+stepped o s = record { outcome = o; state = s }
+
 -- nothing is handed out
 abbrev pub quiet : Receiver → Stepped
-quiet s = record { outcome = Nothing; state = s }
+quiet s = stepped (Ok None) s
 
 -- a flag in FrameEnd hands out the packet where the check agrees
 abbrev pub hands_out : ℕ → Receiver → Bool
@@ -106,7 +128,7 @@ hands_out b s = eqb b flag && agrees_of s
 
 abbrev pub at_frame_end : ℕ → Receiver → Stepped
 at_frame_end b s =
-    cond (hands_out b s) (record { outcome = Packet s.count; state = frame_end_row b s }) (quiet (frame_end_row b s))
+    cond (hands_out b s) (stepped (Ok (Some s.count)) (frame_end_row b s)) (quiet (frame_end_row b s))
 
 -- the table's row for a position
 unfoldable pub row_of : Position → ℕ → Receiver → Stepped
@@ -143,4 +165,4 @@ consistent_of s = leb s.len stored_size && (leb s.count packet_most && fits_at s
 -- ---- a step: by the table where the state is consistent; else number 9 and a fresh state, whatever the byte
 
 unfoldable pub step_of : ℕ → Receiver → Stepped
-step_of b s = cond (consistent_of s) (row_of s.position b s) (record { outcome = Inconsistent; state = fresh_of })
+step_of b s = cond (consistent_of s) (row_of s.position b s) (stepped (Err record {}) fresh_of)

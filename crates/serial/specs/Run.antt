@@ -1,10 +1,8 @@
 -- Steps over a list of bytes: the state after them, and the packets that they hand out. Assumes nothing.
-use Rattle.std.specs.Prelude.{ℕ, ◌+◌, List, [], ◌∷◌, take, drop}
+use Rattle.std.specs.Prelude.{ℕ, ◌+◌, List, [], ◌∷◌, Some, None, Ok, Err, take, drop}
 use Rattle.serial.specs.declared.receiver.Receiver.{Receiver}
-use Rattle.serial.specs.declared.receiver.Outcome.{Outcome}
-use Rattle.serial.specs.declared.receiver.Outcome.TheVariants.{Nothing, Packet, Inconsistent}
 use Rattle.serial.specs.declared.receiver.Stepped.{Stepped}
-use Rattle.serial.specs.Receiver.{step_of}
+use Rattle.serial.specs.Receiver.{Outcome, step_of}
 
 -- what a byte does to a state: our step, or any other that is held against it
 abbrev pub Step : Type 0
@@ -24,9 +22,9 @@ packet_in n s = take n (drop 2 s.stored)
 
 -- what a step at place i hands out, if it does, before what follows
 abbrev pub emit : Outcome → Receiver → ℕ → List (ℕ × List ℕ) → List (ℕ × List ℕ)
-emit Nothing s i rest = rest
-emit (Packet n) s i rest = (i, packet_in n s) ∷ rest
-emit Inconsistent s i rest = rest
+emit (Ok None) s i rest = rest
+emit (Ok (Some n)) s i rest = (i, packet_in n s) ∷ rest
+emit (Err e) s i rest = rest
 
 -- the packets that the bytes hand out by a step, each with the place of the byte on which it comes; the first byte has place i
 unfoldable pub outs_by : Step → ℕ → Receiver → List ℕ → List (ℕ × List ℕ)

@@ -1,20 +1,18 @@
 -- One call of the taker is steps over the bytes that it took. The proofs: `proofs/Steps.antt`. Assumes nothing.
-use Rattle.std.specs.Prelude.{ℕ, ◌+◌, ◌-◌, ◌≤◌, ◌≡◌, List, [], ◌∷◌, length, take}
+use Rattle.std.specs.Prelude.{ℕ, ◌+◌, ◌-◌, ◌≤◌, ◌≡◌, List, [], ◌∷◌, Ok, Err, length, take}
 use Rattle.serial.specs.declared.receiver.Receiver.{Receiver}
-use Rattle.serial.specs.declared.taker.Reason.{Reason}
-use Rattle.serial.specs.declared.taker.Reason.TheVariants.{Packet, InputEnded, AllowanceSpent, ShortOutput, Inconsistent}
+use Rattle.serial.specs.declared.taker.Stop.TheVariants.{Packet, InputEnded, AllowanceSpent}
 use Rattle.serial.specs.declared.taker.Taken.{Taken}
 use Rattle.serial.specs.Consistency.{Consistent}
 use Rattle.serial.specs.Run.{run_of, outs_of, packet_in}
-use Rattle.serial.specs.Taker.{taken_of}
+use Rattle.serial.specs.Taker.{Reason, taken_of}
 
 -- what a call hands out, if it does, at the place of the last byte that it took, before what follows
 abbrev pub handed : Reason → Receiver → ℕ → List (ℕ × List ℕ) → List (ℕ × List ℕ)
-handed (Packet n) s i more = (i, packet_in n s) ∷ more
-handed InputEnded s i more = more
-handed AllowanceSpent s i more = more
-handed ShortOutput s i more = more
-handed Inconsistent s i more = more
+handed (Ok (Packet n)) s i more = (i, packet_in n s) ∷ more
+handed (Ok InputEnded) s i more = more
+handed (Ok AllowanceSpent) s i more = more
+handed (Err e) s i more = more
 
 -- from a consistent state the count is the number of steps: the state is that of one pass over the bytes taken, which are some of the input's
 -- and no more than allowed, and what is handed out is what that pass hands out, on its last byte

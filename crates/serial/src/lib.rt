@@ -5,5 +5,5 @@ mod receiver;
 mod rows;
 mod taker;
 
-pub use receiver::{Outcome, Position, Receiver, STORED_SIZE, Stepped};
-pub use taker::{Reason, Taken};
+pub use receiver::{Inconsistent, Position, Receiver, STORED_SIZE, Stepped, UnknownPosition};
+pub use taker::{Stop, TakeError, Taken};

@@ -1,294 +1,154 @@
-// The receiver's table, a function for each row, under the table's names and in its order. They work on a head and on the stored bytes, which
-// are lent: a byte copies no state.
-ghost use Rattle.std.specs.Prelude.{◌≡◌, true, List, ℕ, ◌+◌, ◌*◌, ◌<◌, ◌≤◌, length, take};
-ghost use Rattle.checks.specs.Numbers.{answer, done};
+// The receiver's table, a function for each row, under the table's names and in its order. They change the state in place: a byte copies none. What they
+// ask of it, room for a byte and a count that a packet can have, follows from consistency; no invariant of the type says it, since the fields are the
+// caller's to keep, and a state that is not consistent is answered by 9.
+ghost use Rattle.std.specs.Prelude.{◌≡◌, ◌≤◌, Ok, true};
 ghost use Rattle.framing.specs.Frame.{packet_most};
-ghost use Rattle.serial.specs.declared.receiver.Receiver.{Receiver};
-ghost use Rattle.serial.specs.Answers.{first_length, reason_answer};
-ghost use Rattle.serial.specs.Receiver.{agrees_of, at_frame_end, begun, byte_count_row, changed, check_row, consistent_of, data_escaped_row, data_row, frame_search_row, move_to, quiet, serial_revision_row, step_of, store_data, store_until, stored_size};
-ghost use Rattle.serial.specs.Core.{Bounded, Leads, held, held_step, held_taken, reason_of};
-ghost use Rattle.serial.specs.Run.{outs_of};
-ghost use Rattle.serial.specs.Taker.{take_from};
+ghost use Rattle.serial.specs.Receiver.{HasRoom, agrees_of, at_frame_end, byte_count_row, check_row, consistent_of, data_escaped_row, data_row, frame_search_row, serial_revision_row, step_of, stepped, store_data, store_until};
 
-use crate::receiver::{Position, Receiver, STORED_SIZE};
-use crate::taker::{Cause, Stopped};
+use crate::receiver::{Position, Receiver};
 use framing::{ESCAPE_ESCAPED, FLAG_ESCAPED, FRAMING_ESCAPE, FRAMING_FLAG, MCTP_SERIAL_REVISION};
 
-// A receiver's state without its stored bytes.
-#[derive(Clone, Copy)]
-pub(crate) struct Head {
-    pub(crate) position: Position,
-    pub(crate) count: usize,
-    pub(crate) len: usize,
-}
-
-// What a byte gives from a consistent state: nothing, or a packet of so many bytes.
-#[derive(Clone, Copy)]
-pub(crate) enum Event {
-    Nothing,
-    Packet(usize),
-}
-
-// What a byte gives, and the head after it.
-#[derive(Clone, Copy)]
-pub(crate) struct Moved {
-    pub(crate) event: Event,
-    pub(crate) head: Head,
-}
-
-impl Head {
-    // The same with another position, count and stored length, whatever is stored.
-    fn changed(self, position: Position, count: usize, len: usize) -> Head
-        ensures { (stored : List ℕ) → held result stored ≡ changed position count len stored (held self stored) }
-    {
-        Head {
-            position,
-            count,
-            len,
-        }
-    }
-
-    // The same at another position.
-    fn at(self, position: Position) -> Head
-        ensures { Leads (move_to position) self result }
-    {
-        self.changed(position, self.count, self.len)
-    }
-
-    // Nothing is handed out.
-    fn quiet(self) -> Moved
-        ensures { (stored : List ℕ) → held_step result stored ≡ quiet (held self stored) }
-    {
-        Moved {
-            event: Event::Nothing,
-            head: self,
-        }
-    }
-
+impl Receiver {
     // A byte is stored; then the position is `full` once the stored length is the count and `more`, until then `short`.
-    fn store_until(
-        self,
-        stored: &mut [u8],
-        b: u8,
-        more: usize,
-        full: Position,
-        short: Position,
-    ) -> Head
-        requires { (self.len < length stored.old) × (self.len < stored_size) × (self.count ≤ packet_most) × (more ≤ 4) }
-        ensures { held result stored.new ≡ store_until more full short b (held self stored.old) }
+    fn store_until(&mut self, b: u8, more: usize, full: Position, short: Position)
+        requires { HasRoom self.old × (more ≤ 4) }
+        ensures { self.new ≡ store_until more full short b self.old }
     {
-        let count = self.count;
-        let len = self.len;
-        stored[len] = b;
-        let next = len + 1;
-        if next == count + more {
-            return self.changed(full, count, next);
-        }
-        self.changed(short, count, next)
+        self.stored[self.len] = b;
+        self.len += 1;
+        self.position = if self.len == self.count + more {
+            full
+        } else {
+            short
+        };
     }
 
     // A packet's byte is stored; Check once the count is reached.
-    fn store_data(self, stored: &mut [u8], b: u8) -> Head
-        requires { (self.len < length stored.old) × (self.len < stored_size) × (self.count ≤ packet_most) }
-        ensures { held result stored.new ≡ store_data b (held self stored.old) }
+    fn store_data(&mut self, b: u8)
+        requires { HasRoom self.old }
+        ensures { self.new ≡ store_data b self.old }
     {
-        self.store_until(stored, b, 2, Position::Check, Position::Data)
+        self.store_until(b, 2, Position::Check, Position::Data);
     }
 
     // Whether the two stored check bytes are the check of what is stored before them.
-    fn agrees(self, stored: &[u8]) -> bool
-        requires { (self.count + 4 ≤ length stored.now) × (self.count ≤ packet_most) }
-        ensures { result ≡ agrees_of (held self stored.now) }
+    #[tactic(auto, unfolding(crate::specs::Receiver::agrees_of))]
+    fn agrees(&self) -> bool
+        requires { self.now.count ≤ packet_most }
+        ensures { result ≡ agrees_of self.now }
     {
-        let n = self.count + 2;
-        checks::frame_check(&stored[..n]) == word(stored[n], stored[n + 1])
+        let covered = &self.stored[..self.count + 2];
+        let check = [self.stored[self.count + 2], self.stored[self.count + 3]];
+        checks::frame_check(covered) == u16::from_be_bytes(check)
     }
 
     // A flag leads to SerialRevision; any other byte stays.
-    fn frame_search(self, b: u8) -> Head
-        ensures { Leads (frame_search_row b) self result }
+    fn frame_search(&mut self, b: u8)
+        ensures { self.new ≡ frame_search_row b self.old }
     {
-        if b == FRAMING_FLAG {
-            self.at(Position::SerialRevision)
+        self.position = if b == FRAMING_FLAG {
+            Position::SerialRevision
         } else {
-            self.at(Position::FrameSearch)
-        }
+            Position::FrameSearch
+        };
     }
 
     // 01 leads to ByteCount, a flag stays, any other byte leads to FrameSearch; it is the first stored byte in any case.
-    fn serial_revision(self, stored: &mut [u8], b: u8) -> Head
-        requires { 0 < length stored.old }
-        ensures { held result stored.new ≡ serial_revision_row b (held self stored.old) }
+    fn serial_revision(&mut self, b: u8)
+        ensures { self.new ≡ serial_revision_row b self.old }
     {
-        stored[0] = b;
-        self.changed(revised(b), 0, 1)
+        self.stored[0] = b;
+        self.len = 1;
+        self.count = 0;
+        self.position = if b == MCTP_SERIAL_REVISION {
+            Position::ByteCount
+        } else if b == FRAMING_FLAG {
+            Position::SerialRevision
+        } else {
+            Position::FrameSearch
+        };
     }
 
     // A zero leads to FrameSearch and stores nothing; any other byte, also a flag or an escape, is the count.
-    fn byte_count(self, stored: &mut [u8], b: u8) -> Head
-        requires { (self.len < length stored.old) × (self.len < stored_size) }
-        ensures { held result stored.new ≡ byte_count_row b (held self stored.old) }
+    fn byte_count(&mut self, b: u8)
+        requires { HasRoom self.old }
+        ensures { self.new ≡ byte_count_row b self.old }
     {
-        let len = self.len;
+        self.count = b as usize;
         if b == 0 {
-            self.changed(Position::FrameSearch, 0, len)
+            self.position = Position::FrameSearch;
         } else {
-            stored[len] = b;
-            self.changed(Position::Data, b as usize, len + 1)
+            self.stored[self.len] = b;
+            self.len += 1;
+            self.position = Position::Data;
         }
     }
 
     // A flag opens the next frame, an escape leads to DataEscaped, any other byte is stored.
-    fn data(self, stored: &mut [u8], b: u8) -> Head
-        requires { (self.len < length stored.old) × (self.len < stored_size) × (self.count ≤ packet_most) }
-        ensures { held result stored.new ≡ data_row b (held self stored.old) }
+    fn data(&mut self, b: u8)
+        requires { HasRoom self.old }
+        ensures { self.new ≡ data_row b self.old }
     {
         if b == FRAMING_FLAG {
-            self.at(Position::SerialRevision)
+            self.position = Position::SerialRevision;
         } else if b == FRAMING_ESCAPE {
-            self.at(Position::DataEscaped)
+            self.position = Position::DataEscaped;
         } else {
-            self.store_data(stored, b)
+            self.store_data(b);
         }
     }
 
     // The two escaped bytes are stored as what they stand for; any other byte, also a flag, leads to FrameSearch.
-    fn data_escaped(self, stored: &mut [u8], b: u8) -> Head
-        requires { (self.len < length stored.old) × (self.len < stored_size) × (self.count ≤ packet_most) }
-        ensures { held result stored.new ≡ data_escaped_row b (held self stored.old) }
+    fn data_escaped(&mut self, b: u8)
+        requires { HasRoom self.old }
+        ensures { self.new ≡ data_escaped_row b self.old }
     {
         if b == FLAG_ESCAPED {
-            self.store_data(stored, FRAMING_FLAG)
+            self.store_data(FRAMING_FLAG);
         } else if b == ESCAPE_ESCAPED {
-            self.store_data(stored, FRAMING_ESCAPE)
+            self.store_data(FRAMING_ESCAPE);
         } else {
-            self.at(Position::FrameSearch)
+            self.position = Position::FrameSearch;
         }
     }
 
     // Any byte is a check byte; FrameEnd behind the second.
-    fn check(self, stored: &mut [u8], b: u8) -> Head
-        requires { (self.len < length stored.old) × (self.len < stored_size) × (self.count ≤ packet_most) }
-        ensures { held result stored.new ≡ check_row b (held self stored.old) }
+    fn check(&mut self, b: u8)
+        requires { HasRoom self.old }
+        ensures { self.new ≡ check_row b self.old }
     {
-        self.store_until(stored, b, 4, Position::FrameEnd, Position::Check)
+        self.store_until(b, 4, Position::FrameEnd, Position::Check);
     }
 
     // A flag hands out the packet where the check agrees, and leads to FrameSearch; any other byte leads to SerialRevision.
-    fn frame_end(self, stored: &[u8], b: u8) -> Moved
-        requires { (self.count + 4 ≤ length stored.now) × (self.count ≤ packet_most) }
-        ensures { held_step result stored.now ≡ at_frame_end b (held self stored.now) }
+    fn frame_end(&mut self, b: u8) -> Option<usize>
+        requires { self.old.count ≤ packet_most }
+        ensures { stepped (Ok result) self.new ≡ at_frame_end b self.old }
     {
-        if b == FRAMING_FLAG {
-            let head = self.at(Position::FrameSearch);
-            if self.agrees(stored) {
-                Moved {
-                    event: Event::Packet(self.count),
-                    head,
-                }
-            } else {
-                Moved {
-                    event: Event::Nothing,
-                    head,
-                }
-            }
-        } else {
-            let head = self.at(Position::SerialRevision);
-            Moved {
-                event: Event::Nothing,
-                head,
-            }
+        if b != FRAMING_FLAG {
+            self.position = Position::SerialRevision;
+            return None;
         }
+        let agrees = self.agrees();
+        self.position = Position::FrameSearch;
+        if agrees { Some(self.count) } else { None }
     }
 
     // One byte from a consistent state: the row of its position.
-    pub(crate) fn advance(self, stored: &mut [u8], b: u8) -> Moved
-        requires { (length stored.old ≡ stored_size) × (consistent_of (held self stored.old) ≡ true) }
-        ensures { held_step result stored.new ≡ step_of b (held self stored.old) }
+    #[tactic(auto, using(crate::proofs::Consistent::has_room, crate::proofs::Consistent::count_bounded), unfolding(crate::specs::Receiver::step_of, crate::specs::Receiver::row_of))]
+    pub(crate) fn advance(&mut self, b: u8) -> Option<usize>
+        requires { consistent_of self.old ≡ true }
+        ensures { stepped (Ok result) self.new ≡ step_of b self.old }
     {
-        let position = self.position;
-        match position {
-            Position::FrameSearch => self.frame_search(b).quiet(),
-            Position::SerialRevision => self.serial_revision(stored, b).quiet(),
-            Position::ByteCount => self.byte_count(stored, b).quiet(),
-            Position::Data => self.data(stored, b).quiet(),
-            Position::DataEscaped => self.data_escaped(stored, b).quiet(),
-            Position::Check => self.check(stored, b).quiet(),
-            Position::FrameEnd => self.frame_end(stored, b),
+        match self.position {
+            Position::FrameSearch => self.frame_search(b),
+            Position::SerialRevision => self.serial_revision(b),
+            Position::ByteCount => self.byte_count(b),
+            Position::Data => self.data(b),
+            Position::DataEscaped => self.data_escaped(b),
+            Position::Check => self.check(b),
+            Position::FrameEnd => return self.frame_end(b),
         }
+        None
     }
-
-    // Takes bytes from a consistent state: the count of those taken is the number of steps made.
-    pub(crate) fn take_bytes(self, stored: &mut [u8], input: &[u8], allowance: usize) -> Stopped
-        requires { (length stored.old ≡ stored_size) × (consistent_of (held self stored.old) ≡ true) }
-        ensures stored_after { held_taken result stored.new ≡ take_from input.now allowance (held self stored.old) 0 }
-        ensures bounded { Bounded result.cause }
-        ensures cause_value { reason_answer (reason_of result.cause) ≡ answer done (first_length (outs_of 0 (held self stored.old) (take allowance input.now))) }
-    {
-        let mut head = self;
-        let mut i = 0;
-        // One test for each byte, for speed; which of the two it was is asked once.
-        let end = lesser(input.len(), allowance);
-        let cause = loop {
-            if end <= i {
-                if input.len() <= i {
-                    break Cause::InputEnded;
-                }
-                break Cause::AllowanceSpent;
-            }
-            let moved = head.advance(stored, input[i]);
-            head = moved.head;
-            i += 1;
-            let event = moved.event;
-            match event {
-                Event::Nothing => {}
-                Event::Packet(n) => break Cause::Packet(n),
-            }
-        };
-        Stopped {
-            cause,
-            taken: i,
-            head,
-        }
-    }
-
-    // The state with these stored bytes.
-    pub(crate) fn with(self, stored: [u8; STORED_SIZE]) -> Receiver
-        ensures { result ≡ held self stored }
-    {
-        let position = self.position;
-        Receiver {
-            position,
-            count: self.count,
-            len: self.len,
-            stored,
-        }
-    }
-}
-
-// Where a byte leads from SerialRevision.
-fn revised(b: u8) -> Position
-    ensures { (s : Receiver) → begun b result s ≡ serial_revision_row b s }
-{
-    if b == MCTP_SERIAL_REVISION {
-        return Position::ByteCount;
-    }
-    if b == FRAMING_FLAG {
-        return Position::SerialRevision;
-    }
-    Position::FrameSearch
-}
-
-// The lesser of two numbers.
-fn lesser(a: usize, b: usize) -> usize
-    ensures { (result ≤ a) × (result ≤ b) × (result < a → result ≡ b) }
-{
-    if a <= b { a } else { b }
-}
-
-// Two bytes as one number, the high one first.
-fn word(high: u8, low: u8) -> u16
-    ensures { result ≡ high * 256 + low }
-{
-    (high as u16) * 256 + (low as u16)
 }

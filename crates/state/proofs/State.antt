@@ -1,17 +1,19 @@
 -- Laws of the definitions of a state's bytes, by their tests: what is loaded from a buffer, and what a stored state leaves there. Assumes nothing.
 use Prim.Native.Nat.{ℕ, ◌≤◌, ◌<◌}
-use mathlib.Core.Path.{◌≡◌, refl, sym}
+use mathlib.Core.Path.{◌≡◌, ◌∙◌, refl, sym}
+use mathlib.Core.Logic.{⊎_elim}
+use Rattle.std.proofs.Common.{None, Some}
+use Rattle.std.specs.List.{slice_get}
+use Rattle.std.proofs.lemmas.Option.{slice_get_cases}
 use mathlib.Core.Bool.{Bool, true, false, ◌||◌, false≢true}
 use mathlib.Core.List.{List}
-use native.Mathlib.Omega.{arith}
 use lib.Dec.{ltb}
-use lib.ListN.{get_or, length, length-set, set}
-use borrow.Author.Tests.{eq-eqb, eqb-true, le-ltb, lt-ltb, ltb-false, ne_eqb}
-use Rattle.checks.proofs.Choice.{by_cond}
+use lib.ListN.{get_or, length, set}
+use borrow.Author.Tests.{eq-eqb, le-ltb, lt-ltb, ltb-false, ne_eqb}
 use Rattle.serial.specs.declared.receiver.Receiver.{Receiver}
 use Rattle.framing.specs.Frame.{packet_most}
-use Rattle.serial.specs.Receiver.{stored_size}
-use Rattle.state.specs.State.{left, loaded, no_position, no_state, sized, state_bytes, state_of, state_size, too_large}
+use Rattle.serial.specs.Receiver.{positions, stored_size}
+use Rattle.state.specs.State.{left, loaded, no_position, no_state, state_bytes, state_of, state_size, too_large}
 
 module _ (bytes : List ℕ) where
   -- ---- what is loaded
@@ -42,16 +44,6 @@ module _ (bytes : List ℕ) where
   unfolding left
   left_stored s h k = simp (eq-eqb (length bytes) state_size h, k)
 
-  -- the buffer keeps its size
-  pub left_length : (s : Receiver) → length s.stored ≡ stored_size → length (left bytes s) ≡ length bytes
-  unfolding left
-  left_length s h =
-      by_cond (λ (made : List ℕ). length made ≡ length bytes) (sized bytes) _ _
-      (λ fit. by_cond (λ (made : List ℕ). length made ≡ length bytes) (too_large s) _ _
-      (λ _. length-set bytes 0 no_position)
-      (λ _. let room : length bytes ≡ state_size = eqb-true (length bytes) state_size fit in omega arith))
-      (λ _. refl)
-
 -- a state that is not too large
 neither : (a b : Bool) → (a || b) ≡ false → (a ≡ false) × (b ≡ false)
 neither true b h = absurd (false≢true (sym h))
@@ -61,3 +53,8 @@ pub small : (s : Receiver) → too_large s ≡ false → (s.count ≤ packet_mos
 small s h =
     let both = neither (ltb packet_most s.count) (ltb stored_size s.len) h in
     (ltb-false packet_most s.count both.0, ltb-false stored_size s.len both.1)
+
+-- a number that no position has
+pub unknown : (n : ℕ) → slice_get positions n ≡ None → no_position ≤ n
+unknown n h =
+    ⊎_elim (λ some. let e : None ≡ Some some.0 = sym h ∙ some.2 in cc) (λ past. past.0) (slice_get_cases positions n).1

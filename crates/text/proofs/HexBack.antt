@@ -12,6 +12,7 @@ use Rattle.checks.specs.Laws.{Bytes}
 use Rattle.checks.specs.Output.{at_start}
 use Rattle.checks.proofs.Choice.{and, left, right}
 use Rattle.io.specs.Digits.{hex_digit_ascii}
+use Rattle.std.specs.Prelude.{Some}
 use Rattle.text.specs.Hex.{hex_all, line_feed}
 use Rattle.text.specs.Laws.{HexReadBack, HexTells, LineTells, OnlyHex}
 use Rattle.text.specs.Read.{all_digits, digit_value, hex_bytes, hex_output, hex_read, is_hex, pair_value}
@@ -86,7 +87,7 @@ unfolding hex_read hex_output
 hex_read_back bs out h room =
     let half : length (hex_all bs) / 2 ≡ length bs = omega (arith, hex_length bs) in
     let all = and (hex_is_hex bs h) (le-leb (length (hex_all bs) / 2) (length out) (omega arith)) in
-    (simp all (ap (λ (n : ℕ). record { ok = true; count = n }) half), simp all (ap (λ (xs : List ℕ). at_start xs out) (bytes_back bs h)))
+    (simp all (ap (λ (n : ℕ). Some n) half), simp all (ap (λ (xs : List ℕ). at_start xs out) (bytes_back bs h)))
 
 -- the text of a byte whose two digits are given
 pair_text : (h l : ℕ) → digit_value h < 16 → digit_value l < 16

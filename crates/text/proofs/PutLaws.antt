@@ -1,17 +1,16 @@
 -- Laws of `put_end` and `put_text`: where the text fits they are the place behind it and a put; and puts that follow one another are one put of all their
 -- bytes, into an output that keeps its length. Assumes nothing.
 use Prim.Native.Nat.{ℕ, ◌+◌, ◌≤◌}
-use mathlib.Core.Path.{◌≡◌, ◌∙◌, ap, ap₂, sym}
-use mathlib.Core.Bool.{true, false}
+use mathlib.Core.Path.{◌≡◌, ◌∙◌, ap, ap₂}
 use mathlib.Core.List.{List, ◌++◌}
 use native.Mathlib.Omega.{arith}
 use lib.ListN.{length, length-append}
-use borrow.Author.Tests.{le-leb, leb-true}
+use borrow.Author.Tests.{le-leb}
 use Rattle.checks.specs.Output.{put_at}
-use Rattle.checks.proofs.Output.{length_put, put_put}
-use Rattle.io.specs.Counts.{IsPrefixLen}
+use Rattle.checks.proofs.Output.{length_put, put_copied, put_next, put_put}
 use Rattle.io.proofs.Counting.{prefix_len_of_le}
-use Rattle.text.specs.Put.{fits, put_end, put_text}
+use Rattle.text.specs.Put.{put_end, put_text}
+use Rattle.text.proofs.HexLaws.{hex_length, line_length}
 
 -- where it fits
 pub with_room : (place : ℕ) (text out : List ℕ) → place + length text ≤ length out
@@ -19,25 +18,8 @@ pub with_room : (place : ℕ) (text out : List ℕ) → place + length text ≤ 
 unfolding put_end put_text
 with_room place text out h = let e = le-leb (place + length text) (length out) h in (simp e, simp e)
 
--- what a function that puts a text says: the place behind it, the output, and that the place lies within it
-abbrev pub Puts : ℕ → List ℕ → List ℕ → ℕ → List ℕ → Type 0
-Puts place text out end after =
-    record { value : end ≡ put_end place text (length out); out_after : after ≡ put_text place text out; prefix_len : IsPrefixLen end after }
-
-pub all_put : (place : ℕ) (text out : List ℕ) (end : ℕ) (after : List ℕ) → fits place text (length out) ≡ true
-    → end ≡ place + length text → after ≡ put_at place text out → Puts place text out end after
-all_put place text out end after e there put =
-    let h = leb-true (place + length text) (length out) e in
-    let same = with_room place text out h in
-    record {
-      value = there ∙ sym same.0;
-      out_after = put ∙ sym same.1;
-      prefix_len = prefix_len_of_le end after (omega (arith, ap length put, length_put place text out h));
-    }
-
-pub none_put : (place : ℕ) (text out : List ℕ) → fits place text (length out) ≡ false → Puts place text out (length out) out
-unfolding put_end put_text
-none_put place text out e = record { value = simp e; out_after = simp e; prefix_len = prefix_len_of_le (length out) out (omega arith) }
+-- what shows that a function puts a text: the text's length, the output's, what a copy and a store leave, and that the place lies within it
+pub ruleset puts = (hex_length, line_length, length_put, put_copied, put_next, prefix_len_of_le)
 
 -- ---- puts that follow one another
 

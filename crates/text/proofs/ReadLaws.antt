@@ -2,23 +2,36 @@
 -- functions say. Assumes nothing.
 use Prim.Native.Nat.{ℕ, zero, suc, ◌+◌, ◌*◌, ◌/◌, ◌^◌, ◌≤◌, ◌<◌}
 use mathlib.Core.Path.{◌≡◌, ◌∙◌, ap, refl, sym}
-use mathlib.Core.Bool.{true, false, not, ◌&&◌}
+use mathlib.Core.Bool.{Bool, true, false, not, ◌&&◌, and-false}
 use mathlib.Core.List.{List, [], ◌∷◌}
 use native.Mathlib.Numerals.{add-one}
 use native.Mathlib.Omega.{arith}
 use lib.Dec.{eqb, ltb}
 use lib.ListN.{length, drop, get_or, set, drop_of_length-le, length-drop}
 use lib.Seq.{drop-cons}
-use borrow.Author.Tests.{le-ltb, lt-ltb, ltb-true}
-use Rattle.checks.specs.Output.{at_start, put_at}
+use borrow.Author.Tests.{le-ltb, lt-ltb, ltb-false, ltb-true}
+use Rattle.checks.specs.Output.{put_at}
 use Rattle.checks.proofs.Choice.{left, right}
-use Rattle.checks.proofs.Output.{length_start, put_one, put_put}
-use Rattle.io.specs.Counts.{IsPrefixLen}
-use Rattle.io.proofs.Counting.{prefix_len_of_le}
-use Rattle.text.specs.declared.hex.HexRead.{HexRead}
-use Rattle.text.specs.Read.{all_digits, decimal_read, decimal_value, digit_value, hex_bytes, hex_fits, hex_output, hex_read, pair_value, starts_number, value_from}
+use Rattle.checks.proofs.Output.{put_one, put_put}
+use Rattle.std.specs.Prelude.{Option, Some, None, IsSome}
+use Rattle.text.specs.Read.{all_digits, decimal_read, decimal_value, digit_in, digit_value, hex_bytes, pair_value, starts_number, value_from}
 
 -- ---- digits
+
+-- a byte that is a digit below a base, and one that is none
+pub digit_some : (base c d : ℕ) → digit_in base c ≡ Some d → (d ≡ digit_value c) × (d < base)
+digit_some base c d e = go (ltb (digit_value c) base) refl
+  where
+    go : (t : Bool) → ltb (digit_value c) base ≡ t → (d ≡ digit_value c) × (d < base)
+    go true h = let is = simp h at e in let same : d ≡ digit_value c = cc in (same, omega (arith, ltb-true _ _ h))
+    go false h = absurd (let is = simp h at e in cc)
+
+pub digit_none : (base c : ℕ) → digit_in base c ≡ None → base ≤ digit_value c
+digit_none base c e = go (ltb (digit_value c) base) refl
+  where
+    go : (t : Bool) → ltb (digit_value c) base ≡ t → base ≤ digit_value c
+    go true h = absurd (let is = simp h at e in cc)
+    go false h = ltb-false _ _ h
 
 -- each byte of a text of digits is below the base
 pub digit_below : (base : ℕ) (text : List ℕ) (i : ℕ) → all_digits base text ≡ true → i < length text → digit_value (get_or text i 0) < base
@@ -26,6 +39,10 @@ unfolding all_digits
 digit_below base [] i e h = absurd (omega arith)
 digit_below base (c ∷ cs) zero e h = ltb-true (digit_value c) base (left _ _ e)
 digit_below base (c ∷ cs) (suc i) e h = digit_below base cs i (right (ltb (digit_value c) base) _ e) (omega arith)
+
+pub digit_there : (base : ℕ) (text : List ℕ) (i : ℕ) (r : Option ℕ) → all_digits base text ≡ true → i < length text → r ≡ digit_in base (get_or text i 0)
+    → IsSome r
+digit_there base text i r h k e = rw (e, lt-ltb _ _ (digit_below base text i h k)) refl
 
 -- of what is left from i on, a byte and the rest
 digits_next : (base : ℕ) (text : List ℕ) (i : ℕ) → i < length text
@@ -71,7 +88,7 @@ no_pair (c ∷ d ∷ rest) h = absurd (omega arith)
 pub pairs_end : (text : List ℕ) (i : ℕ) → length text / 2 ≤ i → hex_bytes (drop (2 * i) text) ≡ []
 pairs_end text i h = no_pair (drop (2 * i) text) (omega (arith, length-drop (2 * i) text))
 
-pairs_length : (text : List ℕ) → length (hex_bytes text) ≡ length text / 2
+pub pairs_length : (text : List ℕ) → length (hex_bytes text) ≡ length text / 2
 unfolding hex_bytes
 pairs_length [] = refl
 pairs_length (c ∷ []) = refl
@@ -87,31 +104,9 @@ pair_turn text i out b h room e =
     ∙ put_put i (b ∷ []) rest out (omega arith)
     ∙ ap (λ (xs : List ℕ). put_at i xs out) (ap (λ (x : ℕ). x ∷ rest) e ∙ sym (pair_next text i h))
 
--- what `read_hex` says: its answer, the output, and that the bytes lie within it
-abbrev ReadsHex : List ℕ → List ℕ → HexRead → List ℕ → Type 0
-ReadsHex text out said after =
-    record { value : said ≡ hex_read text (length out); out_after : after ≡ hex_output text out; prefix_len : IsPrefixLen said.count after }
-
-pub hex-read : (text out after : List ℕ) → hex_fits text (length out) ≡ true → length text / 2 ≤ length out → after ≡ at_start (hex_bytes text) out
-    → ReadsHex text out (record { ok = true; count = length text / 2 }) after
-unfolding hex_read hex_output
-hex-read text out after e room put =
-    let sized : length after ≡ length out = ap length put ∙ length_start (hex_bytes text) out (omega (arith, pairs_length text)) in
-    record { value = simp e; out_after = simp e put; prefix_len = prefix_len_of_le (length text / 2) after (omega arith) }
-
-pub hex_refused : (text out : List ℕ) → hex_fits text (length out) ≡ false → ReadsHex text out (record { ok = false; count = 0 }) out
-unfolding hex_read hex_output
-hex_refused text out e = record { value = simp e; out_after = simp e; prefix_len = prefix_len_of_le 0 out (omega arith) }
-
 -- ---- decimal
 
--- a text's first byte, by its length
-pub starts_short : (text : List ℕ) → length text < 2 → eqb (length text) 1 ≡ starts_number text
-unfolding starts_number
-starts_short [] h = refl
-starts_short (d ∷ []) h = refl
-starts_short (d ∷ e ∷ rest) h = absurd (omega arith)
-
+-- the first byte of a text of two bytes and more
 pub starts_long : (text : List ℕ) → 2 ≤ length text → not (eqb (get_or text 0 0) 48) ≡ starts_number text
 unfolding starts_number
 starts_long [] h = absurd (omega arith)
@@ -137,14 +132,19 @@ value_least n (d ∷ ds) = omega (arith, value_least (n * 10 + digit_value d) ds
 -- what `read_decimal` answers
 module _ (text : List ℕ) where
   pub decimal-read : (value : ℕ) → starts_number text ≡ true → all_digits 10 text ≡ true → value ≡ decimal_value text → value < 2 ^ 64
-      → record { ok = true; value = value } ≡ decimal_read text
+      → Some value ≡ decimal_read text
   unfolding decimal_read
-  decimal-read value es ea ev h = simp (es, ea, lt-ltb (decimal_value text) (2 ^ 64) (omega arith)) (ap (λ (n : ℕ). record { ok = true; value = n }) ev)
+  decimal-read value es ea ev h = simp (es, ea, lt-ltb (decimal_value text) (2 ^ 64) (omega arith)) (ap (λ (n : ℕ). Some n) ev)
 
-  pub decimal_large : starts_number text ≡ true → all_digits 10 text ≡ true → 2 ^ 64 ≤ decimal_value text → record { ok = false; value = 0 } ≡ decimal_read text
+  -- a refusal
+  pub no_start : starts_number text ≡ false → None ≡ decimal_read text
   unfolding decimal_read
-  decimal_large es ea h = simp (es, ea, le-ltb (decimal_value text) (2 ^ 64) h)
+  no_start e = simp e
 
-  pub decimal_refused : (starts_number text && all_digits 10 text) ≡ false → record { ok = false; value = 0 } ≡ decimal_read text
+  pub no_digits : all_digits 10 text ≡ false → None ≡ decimal_read text
   unfolding decimal_read
-  decimal_refused e = simp e
+  no_digits e = simp (e, and-false)
+
+  pub decimal_large : 2 ^ 64 ≤ decimal_value text → None ≡ decimal_read text
+  unfolding decimal_read
+  decimal_large h = simp (le-ltb (decimal_value text) (2 ^ 64) h, and-false)

@@ -1,9 +1,7 @@
 -- What is computed, step by step, from the definitions: texts written out in ASCII, put and read, and texts that are nearly hex or decimal. An error in
 -- a definition breaks these first, and a function that answers anything else there breaks its contract. The proofs: `proofs/Computed.antt`. Assumes
 -- nothing.
-use Rattle.std.specs.Prelude.{ℕ, ◌≡◌, true, false, List, [], ◌∷◌, ◌++◌}
-use Rattle.text.specs.declared.decimal.DecimalRead.{DecimalRead}
-use Rattle.text.specs.declared.hex.HexRead.{HexRead}
+use Rattle.std.specs.Prelude.{ℕ, ◌≡◌, List, [], ◌∷◌, ◌++◌, Option, Some, None}
 use Rattle.text.specs.Decimal.{decimal}
 use Rattle.text.specs.Hex.{hex_all, line_of}
 use Rattle.text.specs.Put.{put_end, put_text}
@@ -46,11 +44,11 @@ HexPut = (put_text 0 (hex_all (0xaf ∷ [])) (1 ∷ 2 ∷ []) ≡ 0x61 ∷ 0x66 
 
 -- ---- read
 
-abbrev bytes_read : ℕ → HexRead
-bytes_read n = record { ok = true; count = n }
+abbrev bytes_read : ℕ → Option ℕ
+bytes_read n = Some n
 
-abbrev no_bytes : HexRead
-no_bytes = record { ok = false; count = 0 }
+abbrev no_bytes : Option ℕ
+no_bytes = None
 
 -- a text with its room, which leaves the bytes beyond it: the first digit of a pair is the high one; and no digit at all
 abbrev pub HexIn : Type 0
@@ -63,11 +61,11 @@ HexRefused = (hex_read some_hex 2 ≡ no_bytes) × (hex_output some_hex (1 ∷ 2
     × (hex_read (0x30 ∷ 0x2f ∷ []) 3 ≡ no_bytes) × (hex_read (0x30 ∷ 0x3a ∷ []) 3 ≡ no_bytes) × (hex_read (0x60 ∷ 0x30 ∷ []) 3 ≡ no_bytes)
     × (hex_read (0x67 ∷ 0x30 ∷ []) 3 ≡ no_bytes)
 
-abbrev number_read : ℕ → DecimalRead
-number_read n = record { ok = true; value = n }
+abbrev number_read : ℕ → Option ℕ
+number_read n = Some n
 
-abbrev no_number : DecimalRead
-no_number = record { ok = false; value = 0 }
+abbrev no_number : Option ℕ
+no_number = None
 
 -- `0`, `100` and the largest number
 abbrev pub DecimalIn : Type 0

@@ -1,6 +1,6 @@
 -- What is proved of the texts: what was written is read back, nothing else is read, and a text tells what it was made of (`proofs/HexBack.antt`,
 -- `proofs/DecimalBack.antt`). Assumes nothing.
-use Rattle.std.specs.Prelude.{ℕ, ◌^◌, ◌≤◌, ◌<◌, ◌≡◌, true, List, ◌++◌, length}
+use Rattle.std.specs.Prelude.{ℕ, ◌^◌, ◌≤◌, ◌<◌, ◌≡◌, true, List, ◌++◌, Some, length}
 use Rattle.checks.specs.Laws.{Bytes}
 use Rattle.checks.specs.Output.{at_start}
 use Rattle.text.specs.Decimal.{decimal}
@@ -10,7 +10,7 @@ use Rattle.text.specs.Read.{decimal_read, decimal_value, hex_bytes, hex_output, 
 -- the hex of bytes reads as these bytes, into any output that has their room
 abbrev pub HexReadBack : Type 0
 HexReadBack = (bytes out : List ℕ) → Bytes bytes → length bytes ≤ length out
-    → (hex_read (hex_all bytes) (length out) ≡ record { ok = true; count = length bytes }) × (hex_output (hex_all bytes) out ≡ at_start bytes out)
+    → (hex_read (hex_all bytes) (length out) ≡ Some (length bytes)) × (hex_output (hex_all bytes) out ≡ at_start bytes out)
 
 -- and a text that is read is the hex of its bytes
 abbrev pub OnlyHex : Type 0
@@ -18,7 +18,7 @@ OnlyHex = (text : List ℕ) → is_hex text ≡ true → hex_all (hex_bytes text
 
 -- the decimal of a number of 64 bits reads as this number
 abbrev pub DecimalReadBack : Type 0
-DecimalReadBack = (n : ℕ) → n < 2 ^ 64 → decimal_read (decimal n) ≡ record { ok = true; value = n }
+DecimalReadBack = (n : ℕ) → n < 2 ^ 64 → decimal_read (decimal n) ≡ Some n
 
 -- and a text that is read is the decimal of its number
 abbrev pub OnlyDecimal : Type 0

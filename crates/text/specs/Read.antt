@@ -1,14 +1,16 @@
 -- Text read back: the bytes of a hex text, and the number of a decimal one. Assumes nothing.
-use Rattle.std.specs.Prelude.{ℕ, ◌+◌, ◌-◌, ◌*◌, ◌/◌, ◌%◌, ◌^◌, Bool, true, false, cond, not, ◌&&◌, List, [], ◌∷◌, eqb, leb, ltb, length}
+use Rattle.std.specs.Prelude.{ℕ, ◌+◌, ◌-◌, ◌*◌, ◌/◌, ◌%◌, ◌^◌, Bool, true, false, cond, not, ◌&&◌, List, [], ◌∷◌, Option, Some, None, eqb, leb, ltb, length}
 use Rattle.checks.specs.Output.{at_start}
-use Rattle.text.specs.declared.decimal.DecimalRead.{DecimalRead}
-use Rattle.text.specs.declared.hex.HexRead.{HexRead}
 
 -- ---- digits
 
 -- the value of a digit, `0` to `9` and `a` to `f` in ASCII; 16 for a byte that is none
 unfoldable pub digit_value : ℕ → ℕ
 digit_value c = cond (leb 48 c && leb c 57) (c - 48) (cond (leb 97 c && leb c 102) (c - 87) 16)
+
+-- the value of a digit below a base
+abbrev pub digit_in : ℕ → ℕ → Option ℕ
+digit_in base c = cond (ltb (digit_value c) base) (Some (digit_value c)) None
 
 -- all bytes of a text are digits below a base
 unfoldable pub all_digits : ℕ → List ℕ → Bool
@@ -35,9 +37,9 @@ hex_bytes (h ∷ l ∷ rest) = pair_value h l ∷ hex_bytes rest
 abbrev pub hex_fits : List ℕ → ℕ → Bool
 hex_fits text room = is_hex text && leb (length text / 2) room
 
--- what is answered: how many bytes there are; a refusal has none
-unfoldable pub hex_read : List ℕ → ℕ → HexRead
-hex_read text room = cond (hex_fits text room) (record { ok = true; count = length text / 2 }) (record { ok = false; count = 0 })
+-- what is answered: how many bytes there are, or a refusal
+unfoldable pub hex_read : List ℕ → ℕ → Option ℕ
+hex_read text room = cond (hex_fits text room) (Some (length text / 2)) None
 
 -- the output after it: the bytes at its start; after a refusal it is as it was
 unfoldable pub hex_output : List ℕ → List ℕ → List ℕ
@@ -64,6 +66,6 @@ decimal_value text = value_from 0 text
 abbrev pub is_decimal : List ℕ → Bool
 is_decimal text = starts_number text && all_digits 10 text && ltb (decimal_value text) (2 ^ 64)
 
--- what is answered; a refusal has the value 0
-unfoldable pub decimal_read : List ℕ → DecimalRead
-decimal_read text = cond (is_decimal text) (record { ok = true; value = decimal_value text }) (record { ok = false; value = 0 })
+-- what is answered: the number, or a refusal
+unfoldable pub decimal_read : List ℕ → Option ℕ
+decimal_read text = cond (is_decimal text) (Some (decimal_value text)) None

@@ -7,6 +7,6 @@ mod digits;
 mod hex;
 mod plain;
 
-pub use decimal::{DecimalRead, put_decimal, read_decimal};
-pub use hex::{HexRead, put_hex, put_line, read_hex};
+pub use decimal::{put_decimal, read_decimal};
+pub use hex::{put_hex, put_line, read_hex};
 pub use plain::put;

@@ -7,14 +7,13 @@ ghost use Rattle.text.specs.Put.{put_end, put_text};
 pub(crate) fn has_room(place: usize, size: usize, room: usize) -> bool
     ensures { result ≡ leb (place + size) room }
 {
-    if room < place {
-        return false;
-    }
-    size <= room - place
+    place.checked_add(size).is_some_and(|end| end <= room)
 }
 
 // Puts the text's bytes as they are from `place` on and answers the place behind them. Where they do not fit it writes nothing and answers the output's
-// length.
+// length: it may not fail. The place stays a parameter beside the output, here and in all that puts: a struct that held the lent output would have to promise at
+// each call that it still holds the same one, which is no plainer.
+#[tactic(auto, using(crate::proofs::PutLaws::puts), unfolding(crate::specs::Put::put_end, crate::specs::Put::put_text))]
 pub fn put(text: &[u8], out: &mut [u8], place: usize) -> usize
     ensures value { result ≡ put_end place text.now (length out.old) }
     ensures out_after { out.new ≡ put_text place text.now out.old }

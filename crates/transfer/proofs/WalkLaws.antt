@@ -1,7 +1,8 @@
 -- Laws of what a walk answers at a place: where it finds a packet, decode accepts what stands from there on, since the tests before it were passed. And
 -- what a caller of `walk_at` knows that has matched on a packet. Assumes nothing.
 use Prim.Native.Nat.{ℕ, ◌+◌, ◌≤◌}
-use mathlib.Core.Path.{◌≡◌, ap, refl}
+use Rattle.std.specs.Prelude.{Option, Some, Ok}
+use mathlib.Core.Path.{◌≡◌, ◌∙◌, ap, refl, sym}
 use mathlib.Core.Bool.{Bool, true, false, cond}
 use mathlib.Core.List.{List, [], ◌∷◌}
 use native.Mathlib.Omega.{arith}
@@ -9,13 +10,11 @@ use lib.Dec.{eqb, ltb}
 use lib.ListN.{length, drop, length-drop}
 use borrow.Author.Tests.{ltb-false}
 use Rattle.checks.specs.Numbers.{answer, done}
-use Rattle.checks.proofs.Numbers.{matched, same_values}
+use Rattle.checks.proofs.Numbers.{same_values}
 use Rattle.usb.specs.Decode.{decode_answer}
 use Rattle.usb.specs.Header.{header_size}
 use Rattle.usb.specs.Numbers.{rx_failure}
 use Rattle.usb.proofs.DecodeLaws.{accepted, refused}
-use Rattle.transfer.specs.declared.walker.Walked.{Walked}
-use Rattle.transfer.specs.declared.walker.Walked.TheVariants.{Packet}
 use Rattle.transfer.specs.Walk.{walk_answer, walked_answer}
 
 -- the end is not a packet
@@ -40,6 +39,6 @@ found s p n e = go (ltb (length s) p) (eqb p (length s)) refl e
         record { inside = omega (arith, (accepted (drop p s) n e).fits, length-drop p s); decoded = e }
 
 -- where `walk_at` gave a packet of n bytes, header and packet lie in the transfer
-pub walked_inside : (r : Walked) (transfer : List ℕ) (place n : ℕ) → walked_answer r ≡ walk_answer transfer place → r ≡ Packet n
+pub walked_inside : {o : Option ℕ} (transfer : List ℕ) (place n : ℕ) → walked_answer (Ok o) ≡ walk_answer transfer place → o ≡ Some n
     → place + (header_size + n) ≤ length transfer
-walked_inside r transfer place n e t = (found transfer place n (matched walked_answer e t)).inside
+walked_inside transfer place n e t = (found transfer place n (sym e ∙ ap (λ (o : Option ℕ). walked_answer (Ok o)) t)).inside

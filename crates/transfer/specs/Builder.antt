@@ -1,18 +1,22 @@
 -- What the builder answers, and what it leaves: the used count and the output (document 01, 'USB' and 'Numbers given back', with its order).
 -- Assumes nothing.
-use Rattle.std.specs.Prelude.{ℕ, ◌+◌, ◌-◌, Bool, cond, not, ◌&&◌, List, [], eqb, leb, length}
+use Rattle.std.specs.Prelude.{ℕ, ◌+◌, ◌-◌, Bool, cond, not, ◌&&◌, List, [], Result, Ok, Err, ⊤, eqb, leb, length}
 use Rattle.checks.specs.Numbers.{Answer, answer, done}
 use Rattle.checks.specs.Output.{put_at}
 use Rattle.usb.specs.Header.{framed, header_size, sendable}
 use Rattle.usb.specs.Numbers.{bad_packet, no_room}
-use Rattle.transfer.specs.declared.builder.Appended.{Appended}
-use Rattle.transfer.specs.declared.builder.Appended.TheVariants.{Done, BadPacket, NoRoom}
+use Rattle.transfer.specs.declared.builder.AppendError.{AppendError}
+use Rattle.transfer.specs.declared.builder.AppendError.TheVariants.{BadPacket, NoRoom}
+
+-- the number of a refusal
+abbrev pub append_error_number : AppendError → ℕ
+append_error_number BadPacket = bad_packet
+append_error_number NoRoom = no_room
 
 -- the answer in document 01's numbers
-abbrev pub appended_answer : Appended → Answer
-appended_answer Done = answer done []
-appended_answer BadPacket = answer bad_packet []
-appended_answer NoRoom = answer no_room []
+abbrev pub appended_answer : Result ⊤ AppendError → Answer
+appended_answer (Ok _) = answer done []
+appended_answer (Err refused) = answer (append_error_number refused) []
 
 -- the most bytes of a transfer
 abbrev pub transfer_most : ℕ

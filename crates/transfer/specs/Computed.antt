@@ -1,10 +1,10 @@
 -- What is computed, step by step, from the definitions: transfers of no and of two packets and one that is cut off, packets appended, and every answer's
 -- number and values. An error in a definition breaks these first. The proofs: `proofs/Computed.antt`. Assumes nothing.
-use Rattle.std.specs.Prelude.{ℕ, ◌≡◌, List, [], ◌∷◌, ◌++◌, replicate}
+use Rattle.std.specs.Prelude.{ℕ, ◌≡◌, List, [], ◌∷◌, ◌++◌, Some, None, Ok, Err, replicate}
 use Rattle.checks.specs.Numbers.{answer, done}
 use Rattle.usb.specs.Numbers.{bad_packet, no_room, rx_failure}
-use Rattle.transfer.specs.declared.builder.Appended.TheVariants.{Done, BadPacket, NoRoom}
-use Rattle.transfer.specs.declared.walker.Walked.TheVariants.{Packet, End, RxFailure}
+use Rattle.usb.specs.declared.decoder.DecodeError.TheVariants.{RxFailure}
+use Rattle.transfer.specs.declared.builder.AppendError.TheVariants.{BadPacket, NoRoom}
 use Rattle.transfer.specs.Builder.{append_answer, append_output, appended_answer, used_after}
 use Rattle.transfer.specs.Walk.{stopped, walk_answer, walked_answer, whole_walk}
 
@@ -32,12 +32,12 @@ PacketsAppended = (append_output (0x07 ∷ []) 1 (replicate 7 0x00) ≡ 0x00 ∷
     × (append_answer 0 508 600 ≡ answer done []) × (append_answer 0 509 600 ≡ answer no_room []) × (append_answer 0 8 7 ≡ answer no_room [])
     × (append_answer 252 8 7 ≡ answer bad_packet [])
 
--- what the builder answers, in document 01's numbers: an `Appended::number` that tells any case by another number breaks its contract, so also one that tells
+-- what the builder answers, in document 01's numbers: a conversion to `u32` that tells any refusal by another number breaks its contract, so also one that tells
 -- a missing room by a frame's number 2, or a packet over 251 bytes by 8
 abbrev pub AppendedTold : Type 0
-AppendedTold = (appended_answer Done ≡ answer 0 []) × (appended_answer BadPacket ≡ answer 6 []) × (appended_answer NoRoom ≡ answer 8 [])
+AppendedTold = (appended_answer (Ok tt) ≡ answer 0 []) × (appended_answer (Err BadPacket) ≡ answer 6 []) × (appended_answer (Err NoRoom) ≡ answer 8 [])
 
--- and the walker: of a packet its length comes with the number, and nothing with the end, so that a `Walked::value` that loses the length, or a `found` that
--- tells a packet as the end, breaks its contract
+-- and the walker: of a packet its length comes with the number, and nothing with the end
 abbrev pub WalkedTold : Type 0
-WalkedTold = ((n : ℕ) → walked_answer (Packet n) ≡ answer 0 (n ∷ [])) × (walked_answer End ≡ answer 0 []) × (walked_answer RxFailure ≡ answer 7 [])
+WalkedTold = ((n : ℕ) → walked_answer (Ok (Some n)) ≡ answer 0 (n ∷ [])) × (walked_answer (Ok None) ≡ answer 0 [])
+    × (walked_answer (Err RxFailure) ≡ answer 7 [])

@@ -1,22 +1,20 @@
 -- The walker: what it answers at a place of a transfer, what it yields and where it goes (document 01, 'USB'), and a walk of several answers.
 -- Assumes nothing.
-use Rattle.std.specs.Prelude.{ℕ, zero, suc, ◌+◌, ◌/◌, ◌≡◌, cond, List, [], ◌∷◌, ◌++◌, eqb, ltb, length, drop}
+use Rattle.std.specs.Prelude.{ℕ, zero, suc, ◌+◌, ◌/◌, ◌≡◌, cond, List, [], ◌∷◌, ◌++◌, Option, Some, None, Result, Ok, Err, ⊤, eqb, ltb, length, drop}
 use Rattle.std.specs.Borrow.{Bor}
 use Rattle.checks.specs.Numbers.{Answer, answer, done}
 use Rattle.checks.specs.Part.{IsPart, Part, bytes_of}
-use Rattle.usb.specs.Decode.{decode_answer, packet_at}
+use Rattle.usb.specs.declared.decoder.DecodeError.{DecodeError}
+use Rattle.usb.specs.Decode.{decode_answer, decode_error_number, packet_at}
 use Rattle.usb.specs.Header.{header_size}
 use Rattle.usb.specs.Numbers.{rx_failure}
-use Rattle.transfer.specs.declared.walker.Walked.{Walked}
-use Rattle.transfer.specs.declared.walker.Walked.TheVariants.{Packet, End, RxFailure}
 use Rattle.transfer.specs.declared.walker.Walker.{Walker}
-use Rattle.transfer.specs.declared.walker.Yielded.{Yielded}
 
 -- the answer in document 01's numbers; the value is the packet's length, and the end has none
-abbrev pub walked_answer : Walked → Answer
-walked_answer (Packet n) = answer done (n ∷ [])
-walked_answer End = answer done []
-walked_answer RxFailure = answer rx_failure []
+abbrev pub walked_answer : Result (Option ℕ) DecodeError → Answer
+walked_answer (Ok (Some n)) = answer done (n ∷ [])
+walked_answer (Ok None) = answer done []
+walked_answer (Err refused) = answer (decode_error_number refused) []
 
 -- a place beyond the transfer; its end; else what decode says from there on
 unfoldable pub walk_answer : List ℕ → ℕ → Answer
@@ -46,10 +44,35 @@ walker_at transfer place = record { transfer = transfer; place = place }
 abbrev pub Starts : Bor (List ℕ) → Walker → Type 0
 Starts transfer w = w ≡ walker_at transfer 0
 
--- what a call of `next` hands back: the answer, the packet, and the walker behind it
+-- what a call of `next` gives: a packet, a refusal, or at the end nothing
+abbrev pub Item : Type 0
+Item = Option (Result (Bor (List ℕ)) DecodeError)
+
+-- and the walker behind it
+pub record Yielded : Type 0 where
+  pub item : Item
+  pub walker : Walker
+
+-- made of the two
+abbrev pub yielded_as : Item → Walker → Yielded
+yielded_as item w = record { item = item; walker = w }
+
+-- what it answers, as `walk_at` does
+abbrev pub walked_of : Item → Result (Option ℕ) DecodeError
+walked_of (Some (Ok packet)) = Ok (Some (length packet.now))
+walked_of (Some (Err refused)) = Err refused
+walked_of None = Ok None
+
+-- its packet, where there is one, is this part of the transfer
+abbrev pub HandsPart : Item → Bor (List ℕ) → Part → Type 0
+HandsPart (Some (Ok packet)) transfer p = IsPart packet transfer p
+HandsPart (Some (Err refused)) transfer p = ⊤
+HandsPart None transfer p = ⊤
+
+-- what a call of `next` gives and leaves: the answer, the packet, and the walker behind it
 abbrev pub Yields : Walker → Yielded → Type 0
-Yields w y = (walked_answer y.answer ≡ walk_answer w.transfer.now w.place)
-    × IsPart y.packet w.transfer (found_part w.transfer.now w.place)
+Yields w y = (walked_answer (walked_of y.item) ≡ walk_answer w.transfer.now w.place)
+    × HandsPart y.item w.transfer (found_part w.transfer.now w.place)
     × (y.walker ≡ walker_at w.transfer (place_after w.transfer.now w.place))
 
 -- ---- the two leave no choice. The proofs: `proofs/OneWalk.antt`
@@ -58,10 +81,16 @@ Yields w y = (walked_answer y.answer ≡ walk_answer w.transfer.now w.place)
 abbrev pub OneStart : Type 0
 OneStart = (transfer : Bor (List ℕ)) (x y : Walker) → Starts transfer x → Starts transfer y → x ≡ y
 
+-- what is read off an item: of a packet its bytes and where they lie
+abbrev pub seen : Item → Option (Result (List ℕ × (ℕ × ℕ)) DecodeError)
+seen (Some (Ok packet)) = Some (Ok (packet.now, packet.ref_ptr))
+seen (Some (Err refused)) = Some (Err refused)
+seen None = None
+
 -- any two results of `next` have the same answer, packets of the same bytes at the same place (docs/UNFIXED.md says what is left), and the same walker
 abbrev pub OneYield : Type 0
 OneYield = (w : Walker) (x y : Yielded) → Yields w x → Yields w y
-    → (x.answer ≡ y.answer) × (◌≡◌ {A = List ℕ × (ℕ × ℕ)} (x.packet.now, x.packet.ref_ptr) (y.packet.now, y.packet.ref_ptr)) × (x.walker ≡ y.walker)
+    → (walked_of x.item ≡ walked_of y.item) × (seen x.item ≡ seen y.item) × (x.walker ≡ y.walker)
 
 -- ---- several answers, one after the other
 
@@ -97,23 +126,23 @@ whole_walk transfer = walk (length transfer / header_size) transfer 0
 
 -- ---- calls of `next`, and such a walk. The proof: `proofs/Turns.antt`
 
--- each on the walker that the one before handed back
+-- each on the walker that the one before left
 abbrev InTurn : Walker → List Yielded → Type 0
 InTurn w [] = Unit {0}
 InTurn w (y ∷ ys) = Yields w y × InTurn y.walker ys
 
--- the packet that came with an answer
-abbrev pub handed : Walked → List ℕ → List (List ℕ)
-handed (Packet n) bytes = bytes ∷ []
-handed End bytes = []
-handed RxFailure bytes = []
+-- the packet of an item
+abbrev pub handed : Item → List (List ℕ)
+handed (Some (Ok packet)) = packet.now ∷ []
+handed (Some (Err refused)) = []
+handed None = []
 
 -- the packets of several
 unfoldable pub handed_all : List Yielded → List (List ℕ)
 handed_all [] = []
-handed_all (y ∷ ys) = handed y.answer y.packet.now ++ handed_all ys
+handed_all (y ∷ ys) = handed y.item ++ handed_all ys
 
--- the walker that the last of them handed back
+-- the walker that the last of them left
 unfoldable pub last_of : Walker → List Yielded → Walker
 last_of w [] = w
 last_of w (y ∷ ys) = last_of y.walker ys

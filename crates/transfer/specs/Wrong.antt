@@ -5,10 +5,9 @@ use Rattle.std.specs.Borrow.{Bor}
 use Rattle.checks.specs.Numbers.{Answer, answer, done}
 use Rattle.usb.specs.Header.{header_size, sendable}
 use Rattle.usb.specs.Numbers.{bad_packet, no_room}
-use Rattle.transfer.specs.declared.walker.Yielded.{Yielded}
 use Rattle.transfer.specs.Builder.{append_answer, fits, used_after}
 use Rattle.transfer.specs.Computed.{two}
-use Rattle.transfer.specs.Walk.{Starts, Yields, place_after, walk_answer, walked_answer, walker_at}
+use Rattle.transfer.specs.Walk.{Starts, Yielded, Yields, place_after, walk_answer, walked_answer, walked_of, walker_at}
 
 -- ---- the walker
 
@@ -31,9 +30,9 @@ NotEmptied = (transfer : Bor (List ℕ)) → 1 ≤ length transfer.now → Start
 -- `next` answers as at the transfer's start, wherever the walker stands
 abbrev pub NotFromStart : Type 0
 NotFromStart = (transfer : Bor (List ℕ)) (y : Yielded) → transfer.now ≡ two
-    → walked_answer y.answer ≡ walk_answer two 0 → Yields (walker_at transfer 6) y → ⊥
+    → walked_answer (walked_of y.item) ≡ walk_answer two 0 → Yields (walker_at transfer 6) y → ⊥
 
--- it hands back a walker that stands where it stood
+-- it leaves the walker standing where it stood
 abbrev pub NotStanding : Type 0
 NotStanding = (transfer : Bor (List ℕ)) (y : Yielded) → transfer.now ≡ two
     → y.walker ≡ walker_at transfer 0 → Yields (walker_at transfer 0) y → ⊥

@@ -4,5 +4,5 @@
 mod builder;
 mod walker;
 
-pub use builder::{Appended, Built, append};
-pub use walker::{Walked, Walker, Yielded, part_at, place_after, walk_at};
+pub use builder::{AppendError, append};
+pub use walker::{Walker, part_at, place_after, walk_at};

@@ -1,19 +1,17 @@
--- Laws of decode's definition: what each check makes of the answer, and back, what an input is that is accepted: each test was passed. And what a
--- caller of `decode` knows that has matched on a packet. Assumes nothing.
+-- Laws of decode's definition: what each check makes of the answer, and back, what an input is that is accepted: each test was passed. Assumes nothing.
 use Prim.Native.Nat.{ℕ, ◌+◌, ◌-◌, ◌≤◌, ◌<◌}
 use mathlib.Core.Path.{◌≡◌, refl}
 use mathlib.Core.Bool.{Bool, true, false, cond, not, ◌&&◌}
 use mathlib.Core.List.{List, [], ◌∷◌}
+use mathlib.Core.Logic.{◌⊎◌, inl, inr}
 use native.Mathlib.Omega.{arith}
 use lib.Dec.{eqb, ltb}
 use lib.ListN.{length, get_or}
 use borrow.Author.Tests.{eq-eqb, eqb-true, le-ltb, lt-ltb, ltb-false, ne_eqb}
 use Rattle.checks.specs.Numbers.{Answer, answer, done}
 use Rattle.checks.proofs.Choice.{by_cond}
-use Rattle.checks.proofs.Numbers.{matched, same_number, same_value}
-use Rattle.usb.specs.declared.decoder.Decoded.{Decoded}
-use Rattle.usb.specs.declared.decoder.Decoded.TheVariants.{Packet}
-use Rattle.usb.specs.Decode.{decode_answer, decoded_answer}
+use Rattle.checks.proofs.Numbers.{same_number, same_value}
+use Rattle.usb.specs.Decode.{decode_answer}
 use Rattle.usb.specs.Header.{first_byte, header_size, second_byte}
 use Rattle.usb.specs.Numbers.{rx_failure}
 
@@ -25,47 +23,45 @@ module _ (input : List ℕ) where
   unfolding decode_answer
   too_short h = simp (lt-ltb (length input) header_size h)
 
-  pub other_first : header_size ≤ length input → (get_or input 0 0 ≡ first_byte → ⊥) → decode_answer input ≡ answer rx_failure []
+  pub other_start : header_size ≤ length input
+      → (get_or input 0 0 ≡ first_byte → ⊥) ⊎ ((get_or input 0 0 ≡ first_byte) × (get_or input 1 0 ≡ second_byte → ⊥))
+      → decode_answer input ≡ answer rx_failure []
   unfolding decode_answer
-  other_first long wrong = simp (le-ltb (length input) header_size long, ne_eqb (get_or input 0 0) first_byte wrong)
-
-  pub other_second : header_size ≤ length input → get_or input 0 0 ≡ first_byte → (get_or input 1 0 ≡ second_byte → ⊥) → decode_answer input ≡ answer rx_failure []
-  unfolding decode_answer
-  other_second long first wrong =
+  other_start long (inl wrong) = simp (le-ltb (length input) header_size long, ne_eqb (get_or input 0 0) first_byte wrong)
+  other_start long (inr (first, wrong)) =
       simp (le-ltb (length input) header_size long, eq-eqb (get_or input 0 0) first_byte first, ne_eqb (get_or input 1 0) second_byte wrong)
 
-  module _ (long : header_size ≤ length input) (first : get_or input 0 0 ≡ first_byte) (second : get_or input 1 0 ≡ second_byte) where
-    pub under_four : get_or input 3 0 < header_size → decode_answer input ≡ answer rx_failure []
+  module _ (long : header_size ≤ length input) (first : get_or input 0 0 ≡ first_byte) (second : get_or input 1 0 ≡ second_byte)
+      (len : ℕ) (there : len ≡ get_or input 3 0) where
+    pub bad_length : (len < header_size) ⊎ ((header_size ≤ len) × (length input < len)) → decode_answer input ≡ answer rx_failure []
     unfolding decode_answer
-    under_four h =
+    bad_length (inl h) =
         simp (
           le-ltb (length input) header_size long,
           eq-eqb (get_or input 0 0) first_byte first,
           eq-eqb (get_or input 1 0) second_byte second,
-          lt-ltb (get_or input 3 0) header_size h,
+          lt-ltb (get_or input 3 0) header_size (omega arith),
         )
-
-    pub cut_off : header_size ≤ get_or input 3 0 → length input < get_or input 3 0 → decode_answer input ≡ answer rx_failure []
-    unfolding decode_answer
-    cut_off h k =
+    bad_length (inr (h, k)) =
         simp (
           le-ltb (length input) header_size long,
           eq-eqb (get_or input 0 0) first_byte first,
           eq-eqb (get_or input 1 0) second_byte second,
-          le-ltb (get_or input 3 0) header_size h,
-          lt-ltb (length input) (get_or input 3 0) k,
+          le-ltb (get_or input 3 0) header_size (omega arith),
+          lt-ltb (length input) (get_or input 3 0) (omega arith),
         )
 
     -- and where none refuses
-    pub whole : header_size ≤ get_or input 3 0 → get_or input 3 0 ≤ length input → decode_answer input ≡ answer done ((get_or input 3 0 - header_size) ∷ [])
+    pub whole : header_size ≤ len → len ≤ length input → decode_answer input ≡ answer done ((len - header_size) ∷ [])
     unfolding decode_answer
     whole h k =
         simp (
           le-ltb (length input) header_size long,
           eq-eqb (get_or input 0 0) first_byte first,
           eq-eqb (get_or input 1 0) second_byte second,
-          le-ltb (get_or input 3 0) header_size h,
-          le-ltb (length input) (get_or input 3 0) k,
+          le-ltb (get_or input 3 0) header_size (omega arith),
+          le-ltb (length input) (get_or input 3 0) (omega arith),
+          there,
         )
 
 -- what an answer of decode can be: a packet, or a refusal
@@ -122,7 +118,3 @@ accepted s n e =
           size = omega arith;
           fits = omega arith;
         }
-
--- where `decode` gave a packet of n bytes, header and packet lie in the input
-pub gave_inside : (r : Decoded) (input : List ℕ) (n : ℕ) → decoded_answer r ≡ decode_answer input → r ≡ Packet n → header_size + n ≤ length input
-gave_inside r input n e t = (accepted input n (matched decoded_answer e t)).fits

@@ -25,7 +25,7 @@ decodes third packet rest =
     let counted : header_size ≤ length packet + header_size = omega arith in
     let there : length packet + header_size ≤ length bytes = omega arith in
     let size : length packet + header_size - header_size ≡ length packet = omega arith in
-    whole bytes long refl refl counted there ∙ ap (λ (n : ℕ). answer done (n ∷ [])) size
+    whole bytes long refl refl (length packet + header_size) refl counted there ∙ ap (λ (n : ℕ). answer done (n ∷ [])) size
 
 pub header_decoded : HeaderDecoded
 header_decoded third packet rest =

@@ -1,16 +1,20 @@
 -- What decode answers, and packet and remainder as parts of its input (document 01, 'USB'). The checks stand in document 01's order. Assumes nothing.
-use Rattle.std.specs.Prelude.{ℕ, ◌+◌, ◌-◌, cond, not, ◌&&◌, List, [], ◌∷◌, eqb, ltb, length, get_or}
+use Rattle.std.specs.Prelude.{ℕ, ◌+◌, ◌-◌, cond, not, ◌&&◌, List, [], ◌∷◌, Result, Ok, Err, eqb, ltb, length, get_or}
 use Rattle.checks.specs.Numbers.{Answer, answer, done}
 use Rattle.checks.specs.Part.{Part, no_part, part}
-use Rattle.usb.specs.declared.decoder.Decoded.{Decoded}
-use Rattle.usb.specs.declared.decoder.Decoded.TheVariants.{Packet, RxFailure}
+use Rattle.usb.specs.declared.decoder.DecodeError.{DecodeError}
+use Rattle.usb.specs.declared.decoder.DecodeError.TheVariants.{RxFailure}
 use Rattle.usb.specs.Header.{first_byte, header_size, second_byte}
 use Rattle.usb.specs.Numbers.{rx_failure}
 
+-- the number of a refusal
+abbrev pub decode_error_number : DecodeError → ℕ
+decode_error_number RxFailure = rx_failure
+
 -- the answer in document 01's numbers; the value is the packet's length
-abbrev pub decoded_answer : Decoded → Answer
-decoded_answer (Packet n) = answer done (n ∷ [])
-decoded_answer RxFailure = answer rx_failure []
+abbrev pub decoded_answer : Result ℕ DecodeError → Answer
+decoded_answer (Ok n) = answer done (n ∷ [])
+decoded_answer (Err refused) = answer (decode_error_number refused) []
 
 -- fewer than 4 bytes; first two bytes not 1a b4; length byte under 4; too few bytes left. The third byte is not tested
 unfoldable pub decode_answer : List ℕ → Answer

@@ -1,8 +1,8 @@
 -- The header of DSP0283 1.0.1 before a packet, and what `header` answers and leaves (document 01, 'USB' and 'Numbers given back'). Assumes nothing.
-use Rattle.std.specs.Prelude.{ℕ, ◌+◌, Bool, cond, ◌&&◌, List, [], ◌∷◌, ◌++◌, eqb, leb, length}
+use Rattle.std.specs.Prelude.{ℕ, ◌+◌, Bool, cond, ◌&&◌, List, [], ◌∷◌, ◌++◌, Result, Ok, Err, ⊤, eqb, leb, length}
 use Rattle.checks.specs.Numbers.{Answer, answer, done}
-use Rattle.usb.specs.declared.head.Headed.{Headed}
-use Rattle.usb.specs.declared.head.Headed.TheVariants.{Done, BadPacket}
+use Rattle.usb.specs.declared.head.HeaderError.{HeaderError}
+use Rattle.usb.specs.declared.head.HeaderError.TheVariants.{BadPacket}
 use Rattle.usb.specs.Numbers.{bad_packet}
 
 -- the DMTF's two identifying bytes
@@ -36,16 +36,20 @@ framed packet = header_of (length packet) ++ packet
 abbrev pub sendable : ℕ → Bool
 sendable size = leb size packet_most
 
+-- the number of a refusal
+abbrev pub header_error_number : HeaderError → ℕ
+header_error_number BadPacket = bad_packet
+
 -- the answer in document 01's numbers
-abbrev pub headed_answer : Headed → Answer
-headed_answer Done = answer done []
-headed_answer BadPacket = answer bad_packet []
+abbrev pub headed_answer : Result ⊤ HeaderError → Answer
+headed_answer (Ok _) = answer done []
+headed_answer (Err refused) = answer (header_error_number refused) []
 
 -- for a packet of this size, into a lent header of `room` bytes
 unfoldable pub header_answer : ℕ → ℕ → Answer
 header_answer size room = cond (eqb room header_size && sendable size) (answer done []) (answer bad_packet [])
 
 -- the lent header after it
-unfoldable pub header_output : Headed → ℕ → List ℕ → List ℕ
-header_output Done size out = header_of size
-header_output BadPacket size out = out
+unfoldable pub header_output : Result ⊤ HeaderError → ℕ → List ℕ → List ℕ
+header_output (Ok _) size out = header_of size
+header_output (Err _) size out = out

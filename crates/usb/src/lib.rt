@@ -5,6 +5,6 @@ mod decoder;
 mod head;
 mod wire;
 
-pub use decoder::{Decoded, decode, packet, remainder};
-pub use head::{Headed, header};
+pub use decoder::{DecodeError, decode, packet, remainder};
+pub use head::{HeaderError, header};
 pub use wire::{HDR_LEN, MCTP_USB_MTU_MAX};

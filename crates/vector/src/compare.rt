@@ -1,67 +1,89 @@
 // A vector replayed, and compared with what is stored.
-use crate::results::{ROOM, Results};
-use crate::{arguments, calls, fields, results};
+ghost use Rattle.std.specs.Prelude.{◌≡◌, ◌∷◌, ◌++◌, Contains, IfSome, IsNone};
 
-// Whether the vector agrees, and a text, up to its end, that says where it does not.
-#[derive(Clone, Copy)]
-pub struct Replayed {
-    pub agrees: bool,
-    pub text: [u8; ROOM],
-    pub end: usize,
-}
+use crate::call::Call;
+use crate::disagreement::Disagreement;
+use crate::error::LineError;
+use crate::fields::Fields;
+use std::{fmt, str};
+
+// No call has more ways to replay it.
+pub const WAYS: usize = 4;
 
 // Replays the line's vector in one of the ways, which are counted from 0. In a way that its call doesn't have it agrees. A line that isn't of its call's form
-// does not agree.
-pub fn replay(line: &[u8], way: usize) -> Replayed {
-    replay_by(&calls::CALLS, line, way)
-}
-
-// The same, by the table of calls.
-fn replay_by(table: &[u8], line: &[u8], way: usize) -> Replayed {
-    let call = fields::row_of(fields::part(line, 0, b' '), table);
-    if calls::ways(call) <= way {
-        return said(true, results::none());
+// does not agree, and one that names no call does not in the first way.
+pub fn replay(line: &[u8], way: usize) -> Result<(), Disagreement<'_>> {
+    let calls = Call::named(name(line));
+    match calls.get(way) {
+        Some(call) => replay_by(*call, line),
+        None if calls.is_empty() && way == 0 => Err(Disagreement::NOT_OF_FORM),
+        None => Ok(()),
     }
-    let arguments = arguments::read(line, fields::cell(table, call, 1));
-    if arguments.ok {
-        let row = std::num::wrapping_add_usize(call, way);
-        return compared(
-            line,
-            calls::results(arguments, row),
-            fields::cell(table, row, 2),
-        );
+}
+
+// The name of the line's call; none where it isn't text.
+fn name(line: &[u8]) -> &str {
+    let (name, _) = split_once(line, b' ').unwrap_or((line, &[]));
+    str::from_utf8(name).unwrap_or("")
+}
+
+// Whether the call gives what is stored.
+fn replay_by(call: Call, line: &[u8]) -> Result<(), Disagreement<'_>> {
+    let Some((text, stored)) = halves(line) else {
+        return Err(Disagreement::NOT_OF_FORM);
+    };
+    let mut expected = Expected { left: Some(stored) };
+    match write_results(&mut expected, call, text) {
+        Ok(()) if expected.left.is_some_and(|left| left.is_empty()) => Ok(()),
+        Err(LineError::NotOfForm) => Err(Disagreement::NOT_OF_FORM),
+        Ok(()) | Err(LineError::Unwritten) => Err(Disagreement::new(call, text, stored)),
     }
-    said(false, results::none().then(b"not of this list's form"))
 }
 
-// The results beside what is stored behind `=`. A text that fills its room may be cut, and never agrees.
-fn compared(line: &[u8], results: Results, way: &[u8]) -> Replayed {
-    let text = results.text;
-    let given = fields::start(&text, results.end);
-    let stored = fields::rest(line, 1, b'=');
-    said(
-        check::same(given, stored) & (results.end < ROOM),
-        told(fields::part(line, 0, b' '), way, given, stored),
-    )
+// Writes the results of the call with the arguments of the text, which is the line's before its sign `=`.
+pub(crate) fn write_results<W: fmt::Write>(
+    to: &mut W,
+    call: Call,
+    text: &str,
+) -> Result<(), LineError> {
+    let mut fields = Fields::behind_name(text)?;
+    call.write_results(to, &mut fields)?;
+    fields.end()
 }
 
-// What the call gives, in the way that is named where there are several, and what is stored.
-fn told(call: &[u8], way: &[u8], given: &[u8], stored: &[u8]) -> Results {
-    results::none()
-        .then(call)
-        .then(way)
-        .then(b" gives")
-        .then(given)
-        .then(b", stored")
-        .then(stored)
+// What is stored and not written yet; none once something else was written. It takes what differs too, since a line is first to be of its form.
+#[derive(Clone, Copy, Debug, PartialEq, Eq)]
+struct Expected<'a> {
+    left: Option<&'a [u8]>,
 }
 
-// The same with the text that says it.
-fn said(agrees: bool, results: Results) -> Replayed {
-    let text = results.text;
-    Replayed {
-        agrees,
-        text,
-        end: results.end,
+impl fmt::Write for Expected<'_> {
+    fn write_str(&mut self, s: &str) -> fmt::Result {
+        self.left = match self.left {
+            Some(left) => left.strip_prefix(s.as_bytes()),
+            None => None,
+        };
+        Ok(())
     }
+}
+
+// The line before the sign `=`, which is a field of its own, and behind it.
+fn halves(line: &[u8]) -> Option<(&str, &[u8])> {
+    let (before, stored) = split_once(line, b'=')?;
+    let text = str::from_utf8(before).ok()?.strip_suffix(' ')?;
+    match stored.first() {
+        None | Some(b' ') => Some((text, stored)),
+        Some(_) => None,
+    }
+}
+
+// The parts of a text before and behind the first place at which the byte stands; none where it stands at none.
+fn split_once(text: &[u8], byte: u8) -> Option<(&[u8], &[u8])>
+    ensures parts { IfSome result (λ parts. text.now ≡ parts.0.now ++ byte ∷ parts.1.now) }
+    ensures first { IfSome result (λ parts. ¬ (Contains parts.0.now byte)) }
+    ensures none { IsNone result → ¬ (Contains text.now byte) }
+{
+    let place = text.iter().position(|b| *b == byte)?;
+    let (before, rest) = text.split_at(place);
+    Some((before, &rest[1..]))
 }

@@ -1,117 +1,132 @@
 // The calls to a serial receiver.
-use crate::arguments::{LONGEST, Numbers};
-use crate::results::Results;
-use crate::{calls, fields, words};
-use serial::{Outcome, Position, Reason, Receiver, STORED_SIZE};
+ghost use Rattle.std.specs.Prelude.{◌<◌};
 
-// The state of the first three numbers and the stored bytes.
-pub(crate) fn state_of(numbers: Numbers, stored: [u8; STORED_SIZE]) -> Receiver {
-    let position = Position::of((numbers.first % 256) as u8);
-    Receiver {
-        position,
-        count: numbers.second,
-        len: numbers.third,
-        stored,
-    }
-}
+use crate::call::Feeding;
+use crate::calls;
+use crate::error::LineError;
+use crate::fields::{Fields, LONGEST, no_bytes};
+use crate::results::{Given, Hex, Packets, State, number_of};
+use serial::{Receiver, Stop};
+use std::fmt;
 
 // `step STATE BYTE`: CONSISTENT NUMBER LENGTH STATE.
-pub(crate) fn step(to: Results, state: Receiver, b: usize) -> Results {
-    let stepped = state.step((b % 256) as u8);
-    let outcome = stepped.outcome;
-    let after = stepped.state;
-    let n = outcome.value();
-    to.word(words::of_consistent(state.consistent()))
-        .number(outcome.number() as usize)
-        .given(0 < n, n)
-        .state(after)
+pub(crate) fn step<W: fmt::Write>(to: &mut W, fields: &mut Fields) -> Result<(), LineError> {
+    let state = fields.state()?;
+    let b = fields.byte()?;
+    let consistent = if state.consistent() { "yes" } else { "no" };
+    let stepped = state.step(b);
+    let number = number_of(stepped.outcome);
+    let length = Given(stepped.outcome.ok().flatten());
+    let after = State(stepped.state);
+    write!(to, " {consistent} {number} {length} {after}")?;
+    Ok(())
 }
 
 // `take STATE INPUT ALLOWANCE ROOM`: NUMBER REASON LENGTH TAKEN STATE OUT.
-pub(crate) fn take(
-    to: Results,
-    state: Receiver,
-    input: &[u8],
-    allowance: usize,
-    room: usize,
-) -> Results {
+pub(crate) fn take<W: fmt::Write>(to: &mut W, fields: &mut Fields) -> Result<(), LineError> {
+    let state = fields.state()?;
+    let mut held = no_bytes();
+    let input = fields.bytes(&mut held)?;
+    let allowance = fields.number()?;
+    let room = fields.room()?;
     let mut out = calls::filled();
-    let size = room % (LONGEST + 1);
-    let taken = state.take(input, allowance, &mut out[0..size]);
-    let reason = taken.reason;
-    let after = taken.state;
-    let n = reason.value();
-    to.number(reason.number() as usize)
-        .word(words::of_reason(reason))
-        .given(0 < n, n)
-        .number(taken.taken)
-        .state(after)
-        .out(out, size)
+    let out = &mut out[..room];
+    let taken = state.take(input, allowance, out);
+    let number = number_of(taken.reason);
+    let (reason, length) = match taken.reason {
+        Ok(Stop::Packet(n)) => ("packet", Some(n)),
+        Ok(Stop::InputEnded) => ("input-ended", None),
+        Ok(Stop::AllowanceSpent) => ("allowance-spent", None),
+        Err(_) => ("-", None),
+    };
+    let length = Given(length);
+    let count = taken.taken;
+    let after = State(taken.state);
+    let out = Hex(out);
+    write!(to, " {number} {reason} {length} {count} {after} {out}")?;
+    Ok(())
 }
 
-// `feed STREAM`: PACKETS STATE, of a fresh receiver that is fed the stream by steps.
-pub(crate) fn by_step(to: Results, stream: &[u8]) -> Results {
+// `feed STREAM`: PACKETS STATE, of a fresh receiver that is fed the stream.
+pub(crate) fn feed<W: fmt::Write>(
+    to: &mut W,
+    fields: &mut Fields,
+    feeding: Feeding,
+) -> Result<(), LineError> {
+    let mut held = no_bytes();
+    let stream = fields.bytes(&mut held)?;
+    let state = match feeding {
+        Feeding::ByteByByte => by_step(to, stream)?,
+        Feeding::InOneCall => by_take(to, stream, LONGEST, LONGEST)?,
+        Feeding::ByteACall => by_take(to, stream, 1, 1)?,
+        Feeding::InPieces => by_take(to, stream, 7, 5)?,
+    };
+    let state = State(state);
+    write!(to, " {state}")?;
+    Ok(())
+}
+
+// By steps: PACKETS, and the state at the end. A refusal, which never comes, is put as a packet, and no stored text has it.
+fn by_step<W: fmt::Write>(to: &mut W, stream: &[u8]) -> Result<Receiver, fmt::Error> {
     let mut state = Receiver::fresh();
-    let mut results = to;
-    let mut i = 0;
-    while i < stream.len() {
-        let stepped = state.step(stream[i]);
-        let outcome = stepped.outcome;
+    let mut packets = Packets::begin(to)?;
+    for (place, b) in stream.iter().enumerate() {
+        let stepped = state.step(*b);
         state = stepped.state;
-        results = after_step(results, i, outcome, state);
-        i += 1;
+        match stepped.outcome {
+            Ok(None) => {}
+            Ok(Some(n)) => packets.write(to, place, first(&state.stored[2..], n))?,
+            Err(_) => packets.write(to, place, &[])?,
+        }
     }
-    results.closed().state(state)
+    packets.end(to)?;
+    Ok(state)
 }
 
-// And the packet that the step at the place hands out. A refusal, which never comes, is put as a packet, and no stored text has it.
-fn after_step(to: Results, place: usize, outcome: Outcome, state: Receiver) -> Results {
-    let stored = state.stored;
-    let n = outcome.value();
-    to.packet(
-        (0 < n) | (checks::DONE < outcome.number()),
-        place,
-        fields::start(fields::behind(&stored, 2), n),
-    )
-}
-
-// The same by the taker: the stream is cut into pieces of so many bytes, with so many allowed to each call. There are never more calls than one for each
-// byte and one more. Where then not all is taken, that is put as a packet, and no stored text has it.
-pub(crate) fn by_take(to: Results, stream: &[u8], piece: usize, allowance: usize) -> Results {
+// By the taker: the stream is cut into pieces of so many bytes, with so many allowed to each call. There are never more calls than one for each byte
+// and one more. Where then not all is taken, that is put as a packet, as is a refusal, which never comes, and no stored text has it.
+fn by_take<W: fmt::Write>(
+    to: &mut W,
+    stream: &[u8],
+    piece: usize,
+    allowance: usize,
+) -> Result<Receiver, fmt::Error>
+    requires { 0 < piece }
+{
+    let filled = calls::filled();
     let mut state = Receiver::fresh();
-    let mut results = to;
-    let mut place = 0;
-    let mut turns = stream.len() + 1;
-    while 0 < turns {
-        let mut out = calls::filled();
+    let mut packets = Packets::begin(to)?;
+    let mut place = 0usize;
+    for _ in 0..=stream.len() {
+        let mut out = filled;
         let taken = state.take(piece_at(stream, place, piece), allowance, &mut out);
-        let reason = taken.reason;
         state = taken.state;
-        place = std::num::wrapping_add_usize(place, taken.taken);
-        results = after_take(results, place, reason, out);
-        turns -= 1;
+        place = place.saturating_add(taken.taken);
+        let last = place.saturating_sub(1);
+        match taken.reason {
+            Ok(Stop::Packet(n)) => packets.write(to, last, first(&out, n))?,
+            Ok(_) => {}
+            Err(_) => packets.write(to, last, &[])?,
+        }
     }
-    results
-        .packet(place != stream.len(), place, b"")
-        .closed()
-        .state(state)
+    if place != stream.len() {
+        packets.write(to, place, &[])?;
+    }
+    packets.end(to)?;
+    Ok(state)
 }
 
 // What is left of the piece that the place lies in.
-fn piece_at(stream: &[u8], place: usize, piece: usize) -> &[u8] {
-    if piece == 0 {
-        return stream;
+fn piece_at(stream: &[u8], place: usize, piece: usize) -> &[u8]
+    requires { 0 < piece }
+{
+    match stream.get(place..) {
+        Some(left) => first(left, piece - place % piece),
+        None => &[],
     }
-    fields::start(fields::behind(stream, place), piece - place % piece)
 }
 
-// And the packet that the byte before the place hands out, put as a step's.
-fn after_take(to: Results, place: usize, reason: Reason, out: [u8; LONGEST]) -> Results {
-    let n = reason.value();
-    let last = std::num::wrapping_sub_usize(place, 1);
-    to.packet(
-        (0 < n) | (checks::DONE < reason.number()),
-        last,
-        fields::start(&out, n),
-    )
+// The first n bytes; all of them where there are fewer.
+fn first(bytes: &[u8], n: usize) -> &[u8] {
+    bytes.get(..n).unwrap_or(bytes)
 }

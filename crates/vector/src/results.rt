@@ -1,123 +1,122 @@
-// The results of a call as text: fields, a space before each. What finds no room ends at the room's end.
-use crate::arguments::LONGEST;
-use crate::{arguments, fields, words};
+// How results are written: as fields, each with a space before it.
+use crate::position::Named;
 use serial::Receiver;
+use std::fmt;
 
-// Room for the text of a vector's results, longer than any line may be.
-pub(crate) const ROOM: usize = 16384;
+// Bytes, `-` for none.
+#[derive(Clone, Copy, Debug, PartialEq, Eq)]
+pub(crate) struct Hex<'a>(pub(crate) &'a [u8]);
 
-#[derive(Clone, Copy)]
-pub(crate) struct Results {
-    pub text: [u8; ROOM],
-    pub end: usize,
+impl<'a> fmt::Display for Hex<'a> {
+    fn fmt<W: fmt::Write>(&self, f: &mut fmt::Formatter<W>) -> fmt::Result {
+        if self.0.is_empty() {
+            return f.write_str("-");
+        }
+        for b in self.0 {
+            write!(f, "{b:02x}")?;
+        }
+        Ok(())
+    }
 }
 
-// No field yet. The room is full of spaces, so that a field leaves one before it by going a place on.
-pub(crate) fn none() -> Results {
-    Results {
-        text: [b' '; ROOM],
-        end: 0,
+// A number that is given, or `-`.
+#[derive(Clone, Copy, Debug, PartialEq, Eq)]
+pub(crate) struct Given(pub(crate) Option<usize>);
+
+impl fmt::Display for Given {
+    fn fmt<W: fmt::Write>(&self, f: &mut fmt::Formatter<W>) -> fmt::Result {
+        match self.0 {
+            Some(n) => write!(f, "{n}"),
+            None => f.write_str("-"),
+        }
     }
 }
 
-impl Results {
-    // A text right behind the last one, with no space between them.
-    pub(crate) fn then(self, text: &[u8]) -> Results {
-        let mut room = self.text;
-        let end = text::put(text, &mut room, self.end);
-        Results { text: room, end }
+// An answer's number: 0 where it is done, or the refusal's.
+pub(crate) fn number_of<T: Drop, E: Into<u32>>(answer: Result<T, E>) -> u32 {
+    match answer {
+        Ok(_) => checks::DONE,
+        Err(e) => e.into(),
     }
+}
 
-    // A word, by its place in the table.
-    pub(crate) fn word(self, k: usize) -> Results {
-        let mut room = self.text;
-        let place = std::num::wrapping_add_usize(self.end, 1);
-        let end = text::put(fields::part(&words::WORDS, k, b'|'), &mut room, place);
-        Results { text: room, end }
-    }
+// NUMBER LENGTH of an answer: its number, and the length that comes with it.
+#[derive(Clone, Copy, Debug, PartialEq, Eq)]
+pub(crate) struct Answer {
+    number: u32,
+    length: Given,
+}
 
-    // A number.
-    pub(crate) fn number(self, n: usize) -> Results {
-        let mut room = self.text;
-        let place = std::num::wrapping_add_usize(self.end, 1);
-        let end = text::put_decimal(n as u64, &mut room, place);
-        Results { text: room, end }
-    }
-
-    // A number that is given, or `-`.
-    pub(crate) fn given(self, is_given: bool, n: usize) -> Results {
-        if is_given {
-            return self.number(n);
-        }
-        self.word(words::NONE)
-    }
-
-    // An answer's number, and its value where it is done.
-    pub(crate) fn answer(self, number: u32, value: usize) -> Results {
-        self.number(number as usize)
-            .given(number == checks::DONE, value)
-    }
-
-    // Bytes, `-` for none.
-    pub(crate) fn bytes(self, bytes: &[u8]) -> Results {
-        if bytes.len() == 0 {
-            return self.word(words::NONE);
-        }
-        let mut room = self.text;
-        let place = std::num::wrapping_add_usize(self.end, 1);
-        let end = text::put_hex(bytes, &mut room, place);
-        Results { text: room, end }
-    }
-
-    // A byte.
-    pub(crate) fn byte(self, b: u8) -> Results {
-        let one = [b];
-        self.bytes(&one)
-    }
-
-    // The first bytes, so many, of what was lent.
-    pub(crate) fn out(self, out: [u8; LONGEST], size: usize) -> Results {
-        self.bytes(fields::start(&out, size))
-    }
-
-    // STATE
-    pub(crate) fn state(self, state: Receiver) -> Results {
-        let position = state.position;
-        let stored = state.stored;
-        self.word(words::POSITION + position.number() as usize)
-            .number(state.count)
-            .number(state.len)
-            .bytes(arguments::trimmed(&stored))
-    }
-
-    // PLACE:HEX of a packet that is found, and a comma before it; where it is the first one, the space stays.
-    pub(crate) fn packet(self, is_found: bool, place: usize, packet: &[u8]) -> Results {
-        if is_found {
-            let placed = self.number(place);
-            return placed
-                .bytes(packet)
-                .with(self.end, b',')
-                .with(placed.end, b':')
-                .with(0, b' ');
-        }
-        self
-    }
-
-    // With the byte at the place.
-    fn with(self, place: usize, b: u8) -> Results {
-        let mut text = self.text;
-        text[place % ROOM] = b;
-        Results {
-            text,
-            end: self.end,
+impl Answer {
+    pub(crate) fn of<E: Into<u32> + Copy>(answer: Result<usize, E>) -> Answer {
+        Answer {
+            number: number_of(answer),
+            length: Given(answer.ok()),
         }
     }
+}
 
-    // Behind all packets: `-` where there are none.
-    pub(crate) fn closed(self) -> Results {
-        if self.end == 0 {
-            return self.word(words::NONE);
+impl fmt::Display for Answer {
+    fn fmt<W: fmt::Write>(&self, f: &mut fmt::Formatter<W>) -> fmt::Result {
+        let number = self.number;
+        let length = self.length;
+        write!(f, "{number} {length}")
+    }
+}
+
+// STATE
+#[derive(Clone, Copy, Debug, PartialEq, Eq)]
+pub(crate) struct State(pub(crate) Receiver);
+
+impl fmt::Display for State {
+    fn fmt<W: fmt::Write>(&self, f: &mut fmt::Formatter<W>) -> fmt::Result {
+        let position = Named(self.0.position);
+        let count = self.0.count;
+        let len = self.0.len;
+        let stored = Hex(trimmed(&self.0.stored));
+        write!(f, "{position} {count} {len} {stored}")
+    }
+}
+
+// The bytes without the zeros at their end.
+pub(crate) fn trimmed(bytes: &[u8]) -> &[u8] {
+    match bytes.iter().rposition(|b| *b != 0) {
+        Some(last) => &bytes[..last + 1],
+        None => &[],
+    }
+}
+
+// PACKETS: PLACE:HEX of each, with commas between them, `-` for none.
+#[derive(Clone, Copy, Debug, PartialEq, Eq)]
+pub(crate) struct Packets {
+    is_first: bool,
+}
+
+impl Packets {
+    // Before the first one.
+    pub(crate) fn begin<W: fmt::Write>(to: &mut W) -> Result<Packets, fmt::Error> {
+        to.write_str(" ")?;
+        Ok(Packets { is_first: true })
+    }
+
+    // The next one.
+    pub(crate) fn write<W: fmt::Write>(
+        &mut self,
+        to: &mut W,
+        place: usize,
+        packet: &[u8],
+    ) -> fmt::Result {
+        let comma = if self.is_first { "" } else { "," };
+        self.is_first = false;
+        let packet = Hex(packet);
+        write!(to, "{comma}{place}:{packet}")
+    }
+
+    // Behind the last one.
+    pub(crate) fn end<W: fmt::Write>(self, to: &mut W) -> fmt::Result {
+        if self.is_first {
+            return to.write_str("-");
         }
-        self
+        Ok(())
     }
 }

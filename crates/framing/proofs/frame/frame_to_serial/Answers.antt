@@ -1,27 +1,22 @@
 -- `framing::frame_to_serial` meets its contract: its tests are the definition's, in the definition's order, since the length that it computes
 -- is the frame's. Assumes nothing.
-use Prim.Native.Nat.{ℕ, ◌≤◌, ◌<◌}
-use mathlib.Core.Path.{◌≡◌, ap, refl}
-use mathlib.Core.Bool.{true}
-use mathlib.Core.List.{List, [], ◌∷◌}
-use native.Mathlib.Omega.{arith}
-use lib.ListN.{length}
-use borrow.Author.Tests.{le-leb, lt-leb}
+use Rattle.std.proofs.Common.{◌≡◌, ◌≤◌, ◌<◌, [], ◌∷◌, ap, arith, false, leb, length, List, refl, rules, true, ℕ}
+use borrow.Author.Tests.{le-leb, leb-true, lt-leb}
 use Rattle.checks.specs.Numbers.{answer, done, short_output}
-use Rattle.framing.specs.Numbers.{bad_length}
+use Rattle.checks.proofs.Choice.{right}
 use Rattle.framing.specs.Frame.{frame, packet_least, packet_most}
+use Rattle.framing.specs.Numbers.{bad_length}
 use Rattle.framing.specs.Writer.{output_of, sendable, writer_answer}
 use Rattle.framing.proofs.FrameLaws.{escapes_most, frame_length}
-use Rattle.framing.proofs.Writer.{sendable_within}
+use Rattle.framing.proofs.Writer.{le_tested}
 use Rattle.framing.proofs.frame.frame_to_serial.Goals as goal
 
-too_short : (packet : List ℕ) (room : ℕ) → length packet < packet_least → answer bad_length [] ≡ writer_answer packet room
-unfolding writer_answer
-too_short packet room h = simp (lt-leb packet_least (length packet) h)
+sendable_few : (packet : List ℕ) → sendable packet ≡ true → length packet ≤ packet_most
+sendable_few packet h = leb-true (length packet) packet_most (right (leb packet_least (length packet)) (leb (length packet) packet_most) h)
 
-too_long : (packet : List ℕ) (room : ℕ) → packet_most < length packet → answer bad_length [] ≡ writer_answer packet room
+refused : (packet : List ℕ) (room : ℕ) → sendable packet ≡ false → answer bad_length [] ≡ writer_answer packet room
 unfolding writer_answer
-too_long packet room h = simp (le-leb packet_least (length packet) (omega arith), lt-leb (length packet) packet_most h)
+refused packet room h = simp h
 
 no_room : (packet : List ℕ) (room : ℕ) → sendable packet ≡ true → room < length (frame packet) → answer short_output [] ≡ writer_answer packet room
 unfolding writer_answer
@@ -33,19 +28,12 @@ unfolding writer_answer
 with-room packet room n h e fits =
     simp (h, le-leb (length (frame packet)) room (omega arith)) (ap (λ (m : ℕ). answer done (m ∷ [])) e)
 
-pub returns-then-count-lt-PACKET_LEAST : goal.returns-then-count-lt-PACKET_LEAST
+pub returns-then-not-contains : goal.returns-then-not-contains
 unfolding output_of
-returns-then-count-lt-PACKET_LEAST c = record {
-  result_value = too_short _ _ (omega arith);
-  out_after = refl;
-}
-
-pub returns-then-count-gt-PACKET_MOST : goal.returns-then-count-gt-PACKET_MOST
-unfolding output_of
-returns-then-count-gt-PACKET_MOST c = record {
-  result_value = too_long _ _ (omega arith);
-  out_after = refl;
-}
+returns-then-not-contains c =
+    let packet = c.args.packet.now in
+    let not : sendable packet ≡ false = search (rules, le_tested) in
+    record { result_value = refused packet _ not; out_after = refl }
 
 pub overflow_add-len : goal.overflow_add-len
 overflow_add-len c =
@@ -54,30 +42,31 @@ overflow_add-len c =
 
 pub overflow_add-len-2 : goal.overflow_add-len-2
 overflow_add-len-2 c =
-    let e = escapes_most c.args.packet.now in
+    let packet = c.args.packet.now in
+    let sent : sendable packet ≡ true = search (rules, le_tested) in
+    let few = sendable_few packet sent in
+    let e = escapes_most packet in
     record { fits = omega arith }
 
 pub returns-then-out-len : goal.returns-then-out-len
 unfolding output_of
 returns-then-out-len c =
     let packet = c.args.packet.now in
+    let sent : sendable packet ≡ true = search (rules, le_tested) in
     let e = frame_length packet in
-    record {
-      result_value = no_room packet _ (sendable_within packet (omega arith) (omega arith)) (omega arith);
-      out_after = refl;
-    }
+    record { result_value = no_room packet _ sent (omega arith); out_after = refl }
 
 pub write_frame-requires : goal.write_frame-requires
 write_frame-requires c =
-    let e = frame_length c.args.packet.now in
-    (omega arith, omega arith)
+    let packet = c.args.packet.now in
+    let sent : sendable packet ≡ true = search (rules, le_tested) in
+    let e = frame_length packet in
+    (sendable_few packet sent, omega arith)
 
 pub returns : goal.returns
 unfolding output_of
 returns c =
     let packet = c.args.packet.now in
+    let sent : sendable packet ≡ true = search (rules, le_tested) in
     let e = frame_length packet in
-    record {
-      result_value = with-room packet _ _ (sendable_within packet (omega arith) (omega arith)) (omega arith) (omega arith);
-      out_after = c.write_frame.ensures;
-    }
+    record { result_value = with-room packet _ _ sent (omega arith) (omega arith); out_after = c.write_frame.ensures }

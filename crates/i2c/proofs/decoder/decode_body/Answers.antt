@@ -1,22 +1,15 @@
--- `i2c::decoder::decode_body` meets its contract: its tests are the definition's, in the definition's order. Assumes nothing.
+-- `decode_body` meets its contract: its tests are the definition's, in the definition's order. Assumes nothing.
 use mathlib.Core.Path.{sym}
 use native.Mathlib.Omega.{arith}
-use Rattle.i2c.proofs.DecodeLaws.{body_command, body_count, body_done, body_short}
+use Rattle.i2c.proofs.DecodeLaws.{body_done, body_short, body_wrong}
 use Rattle.i2c.proofs.decoder.decode_body.Goals as goal
 
-pub returns-then-bytes-lt-MCTP_I2C_HEADER : goal.returns-then-bytes-lt-MCTP_I2C_HEADER
-returns-then-bytes-lt-MCTP_I2C_HEADER c = sym (body_short c.args.bytes.now (omega arith))
+pub returns-in_default : goal.returns-in_default
+returns-in_default c = sym (body_short c.args.bytes.now (omega arith))
 
-pub overflow_cast-bytes : goal.overflow_cast-bytes
-overflow_cast-bytes c = omega (arith, c.type_inv.bytes 2)
-
-pub returns-then-bytes : goal.returns-then-bytes
-returns-then-bytes c = sym (body_count c.args.bytes.now (omega arith) (λ e. omega (arith, c.if-bytes.true)))
-
-pub returns-then-bytes-ne-MCTP_I2C_COMMAND_CODE : goal.returns-then-bytes-ne-MCTP_I2C_COMMAND_CODE
-returns-then-bytes-ne-MCTP_I2C_COMMAND_CODE c =
-    sym (body_command c.args.bytes.now (omega arith) (omega arith) (λ e. omega (arith, c.if-bytes-ne-MCTP_I2C_COMMAND_CODE.true)))
+pub returns-then-from-bytes : goal.returns-then-from-bytes
+returns-then-from-bytes c =
+    sym (body_wrong c.args.bytes.now (omega arith) c.from.result c.from.ensures c.then-from-bytes.either)
 
 pub returns : goal.returns
-returns c =
-    sym (body_done c.args.bytes.now (omega arith) (omega arith) (omega arith))
+returns c = sym (body_done c.args.bytes.now (omega arith) (omega (arith, c.from.ensures)) (omega arith))

@@ -1,28 +1,13 @@
--- `pulevago_i2c_encode` meets its contract: number and value are those of encode's answer, and the output is left by its number. Assumes nothing.
+-- `pulevago_i2c_encode` meets its contract: what `i2c::encode` leaves in the output is what its answer's number says. Assumes nothing.
 use mathlib.Core.Path.{◌∙◌}
-use Rattle.i2c.specs.Encode.{encoded_answer}
+use Rattle.std.specs.Prelude.{Ok, Err}
 use Rattle.pulevago.proofs.Answers.{encoded_left}
-use Rattle.pulevago.proofs.Lent.{given_refused, number_given, output_given, value_given}
 use Rattle.pulevago.proofs.i2c_calls.pulevago_i2c_encode.Goals as goal
 
-pub returns-then-number-eq-DONE : goal.returns-then-number-eq-DONE
-returns-then-number-eq-DONE c =
-    let a = c.args in
-    let r = c.encode-answer.result in
-    let e = c.encode-answer.ensures in
-    let t = c.number-number.ensures in record {
-      value = number_given (encoded_answer r) _ _ t e.result_value;
-      out_after = output_given (encoded_answer r) _ _ t e.result_value _ _ _ (e.out_after ∙ encoded_left r a.own a.dest a.pec a.payload.now a.out.now);
-      written_after = value_given (encoded_answer r) _ _ t e.result_value _ _ c.if-number-eq-DONE.true c.value.ensures;
-    }
+pub returns-in-Ok-clause-out_after : goal.returns-in-Ok-clause-out_after
+returns-in-Ok-clause-out_after c =
+    let a = c.args in c.in-Ok.ensures.out_after ∙ encoded_left (Ok c.in-Ok.n) a.own a.dest a.pec a.payload.now a.out.now
 
-pub returns : goal.returns
-returns c =
-    let a = c.args in
-    let r = c.encode-answer.result in
-    let e = c.encode-answer.ensures in
-    let t = c.number-number.ensures in record {
-      value = number_given (encoded_answer r) _ _ t e.result_value;
-      out_after = output_given (encoded_answer r) _ _ t e.result_value _ _ _ (e.out_after ∙ encoded_left r a.own a.dest a.pec a.payload.now a.out.now);
-      written_after = given_refused _ _ _ c.if-number-eq-DONE.false;
-    }
+pub returns-in-Err-clause-out_after : goal.returns-in-Err-clause-out_after
+returns-in-Err-clause-out_after c =
+    let a = c.args in rw c.from.ensures (c.in-Err.ensures.out_after ∙ encoded_left (Err c.in-Err.refused) a.own a.dest a.pec a.payload.now a.out.now)

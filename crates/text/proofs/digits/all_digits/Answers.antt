@@ -1,21 +1,20 @@
--- `text::digits::all_digits` meets its contract. The loop's invariant: what is left from the place on has digits alone where the whole text has.
--- Assumes nothing.
-use mathlib.Core.Path.{refl}
-use native.Mathlib.Omega.{arith}
-use borrow.Author.Rules.{rules}
-use Rattle.text.proofs.ReadLaws.{digits_end, digits_go_on, digits_stop}
+-- `text::digits::all_digits` meets its contract: the test that the closure makes of each byte is the definition's. Assumes nothing.
+use Rattle.std.proofs.Common.{◌≡◌, ◌∙◌, ℕ, ◌&&◌, List, refl, rules, ltb}
+use Rattle.std.proofs.lemmas.Iterator.{YieldsList-from_slice}
+use Rattle.std.proofs.lemmas.Iterator.Search.{all_from_yields_List}
+use Rattle.std.proofs.lemmas.List.Recursion.{same_from_clauses}
+use Rattle.std.specs.List.{list_all}
+use borrow.Author.Tests.{tests}
+use Rattle.text.specs.Read.{all_digits, digit_value}
 use Rattle.text.proofs.digits.all_digits.Goals as goal
 
-pub loop-i-init : goal.loop-i-init
-loop-i-init c = (search rules, refl)
-
-pub returns-then-base-digit_value : goal.returns-then-base-digit_value
-returns-then-base-digit_value c =
-    digits_stop _ _ c.loop-i.i c.loop-i.invariant.1 (omega arith) (omega (arith, c.digit_value.ensures))
-
-pub loop-i-preserved : goal.loop-i-preserved
-loop-i-preserved c =
-    (search rules, digits_go_on _ _ c.loop-i.i c.loop-i.invariant.1 (omega arith) (omega (arith, c.digit_value.ensures)))
+same_all : (base : ℕ) (text : List ℕ) → list_all (λ x. ltb (digit_value x) base) text ≡ all_digits base text
+unfolding all_digits
+same_all base text =
+    same_from_clauses (list_all (λ x. ltb (digit_value x) base)) (all_digits base) (λ x rest. ltb (digit_value x) base && rest) refl (λ _ _. refl)
+    (λ _ _. refl) text
 
 pub returns : goal.returns
-returns c = digits_end _ _ _ c.loop-i.invariant.1 c.loop-i-test.false
+returns c =
+    all_from_yields_List (λ x. ltb (digit_value x) c.args.base) _ _ _ c.all.ensures.ran (YieldsList-from_slice c.args.text.now cc)
+    (λ x b q k. search (rules, tests)) ∙ same_all c.args.base c.args.text.now

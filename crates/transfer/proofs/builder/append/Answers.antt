@@ -1,6 +1,6 @@
 -- `append` meets its contract: its tests are the definition's, and what `put` writes into the part behind the used bytes is written there in the
 -- output. Assumes nothing.
-use Prim.Native.Nat.{ℕ, ◌+◌, ◌-◌, ◌≤◌, ◌<◌}
+use Prim.Native.Nat.{ℕ, ◌+◌, ◌-◌, ◌≤◌, ◌<◌, min}
 use mathlib.Core.Path.{◌≡◌, ◌∙◌, ap, ap₂, refl, sym}
 use mathlib.Core.Bool.{Bool, true, false, cond, not, ◌&&◌}
 use mathlib.Core.List.{List, []}
@@ -16,9 +16,10 @@ use Rattle.checks.proofs.Choice.{and}
 use Rattle.checks.proofs.Output.{put_lent}
 use Rattle.usb.specs.Header.{framed, header_size, packet_most, sendable}
 use Rattle.usb.specs.Numbers.{bad_packet, no_room}
-use Rattle.transfer.specs.Builder.{append_answer, append_output, fits, limit, used_after}
-use Rattle.transfer.proofs.Limit.{limit_room}
+use Rattle.transfer.specs.Builder.{append_answer, append_output, fits, limit, transfer_most, used_after}
+use Rattle.transfer.proofs.Limit.{limit_min, limit_room}
 use Rattle.transfer.proofs.builder.append.Goals as goal
+use Rattle.transfer.proofs.builder.append.Goals.{then-used-most-via-then-used-most, then-used-most-via-else-used-most+then-most-used}
 
 -- the two tests below a limit are one
 below : (used size most : ℕ) → used + size ≤ most → (leb used most && leb size (most - used)) ≡ true
@@ -73,45 +74,43 @@ with-room packet out used back small room written =
     let all = by_answer packet out used (answer done []) e in
     (all.0, (all.1.0, put_lent used (framed packet) out back (omega (arith, limit_room (length out))) written ∙ all.1.1))
 
-pub returns-then-size-gt-MCTP_USB_MTU_MAX : goal.returns-then-size-gt-MCTP_USB_MTU_MAX
-returns-then-size-gt-MCTP_USB_MTU_MAX c =
+pub returns-then-packet-gt-MCTP_USB_MTU_MAX : goal.returns-then-packet-gt-MCTP_USB_MTU_MAX
+returns-then-packet-gt-MCTP_USB_MTU_MAX c =
     let a = c.args in
     let all =
-    by_answer a.packet.now a.out.now a.used (answer bad_packet [])
-    (by_tests (length a.packet.now) a.used (length a.out.now) false _ (lt-leb _ _ c.if-size-gt-MCTP_USB_MTU_MAX.true) refl)
+    by_answer a.packet.now a.out.now a.used.now (answer bad_packet [])
+    (by_tests (length a.packet.now) a.used.now (length a.out.now) false _ (lt-leb _ _ c.if-packet-gt-MCTP_USB_MTU_MAX.true) refl)
     in
     record { answer_value = all.0; used_value = all.1.0; out_after = all.1.1 }
 
+-- what `min` gave is the limit
+most : (n room : ℕ) → n ≡ min room transfer_most → n ≡ limit room
+most n room e = e ∙ limit_min room
+
 pub returns-then-used-most : goal.returns-then-used-most
 returns-then-used-most c =
-    let all = without_room c.args.packet.now c.args.out.now c.args.used (omega arith) (omega (arith, c.limit_of-most.ensures)) in
-    record { answer_value = all.0; used_value = all.1.0; out_after = all.1.1 }
-
-pub returns-then-most-used : goal.returns-then-most-used
-returns-then-most-used c =
-    let all = without_room c.args.packet.now c.args.out.now c.args.used (omega arith) (omega (arith, c.limit_of-most.ensures)) in
+    let a = c.args in
+    let limited = most c.min-most.result (length a.out.now) c.min-most.ensures in
+    let all = without_room a.packet.now a.out.now a.used.now (omega arith) (elim c.then-used-most.branch [
+      | then-used-most-via-then-used-most w ↦ omega (arith, limited)
+      | then-used-most-via-else-used-most+then-most-used w ↦ omega (arith, limited)
+    ]) in
     record { answer_value = all.0; used_value = all.1.0; out_after = all.1.1 }
 
 -- the used bytes end within the output
-pub slice_bounds-put-count : goal.slice_bounds-put-count
-slice_bounds-put-count c =
-    omega (arith, c.limit_of-most.ensures, limit_room (length c.args.out.now))
-
-pub slice_bounds-put-start : goal.slice_bounds-put-start
-slice_bounds-put-start c = slice_bounds-put-count c
-
 pub put-requires : goal.put-requires
 put-requires c =
     let out = c.args.out.now in
-    let used = c.args.used in (
+    let used = c.args.used.now in (
       omega arith,
-      omega (arith, c.limit_of-most.ensures, limit_room (length out), ap length (part_to_end out used), length-drop used out),
+      omega (arith, most c.min-most.result (length out) c.min-most.ensures, limit_room (length out), ap length (part_to_end out used), length-drop used out),
     )
 
 pub returns : goal.returns
 returns c =
+    let a = c.args in
+    let limited = most c.min-most.result (length a.out.now) c.min-most.ensures in
     let all =
-    with-room c.args.packet.now c.args.out.now c.args.used c.put.new.part (omega arith) (omega (arith, c.limit_of-most.ensures))
-    c.put.ensures
+    with-room a.packet.now a.out.now a.used.now c.put.new.part (omega arith) (omega (arith, limited)) c.put.ensures
     in
     record { answer_value = all.0; used_value = all.1.0; out_after = all.1.1 }
