@@ -22,6 +22,7 @@ pub fn frame_check_from(register: u16, bytes: &[u8]) -> u16
     ensures { result ≡ frame_check_from register bytes.now }
 {
     let table = frame_table();
+    // Casts by `as`, here and below, are the language's own between numbers that fit.
     let reg = bytes.iter().fold(register as u32, |reg, &b| {
         let low = ((reg ^ (b as u32)) % 256) as usize;
         (reg >> 8) ^ (table[low] as u32)

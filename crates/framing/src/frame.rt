@@ -44,6 +44,7 @@ struct Writer<'a> {
     register: u32,
 }
 
+// Each asks for the room of what it puts, which is another amount for each, so no invariant says it.
 impl<'a> Writer<'a> {
     // A byte as it stands, which the check does not cover.
     fn put(&mut self, b: u8)

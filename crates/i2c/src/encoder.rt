@@ -25,12 +25,14 @@ impl From<EncodeError> for u32 {
     }
 }
 
-// Header and payload at the output's start, and the PEC over both behind them, where it is wanted.
+// Header and payload at the output's start, and the PEC over both behind them, where it is wanted. The four go side by side: beside the public encode only
+// this function has them, so a struct would be no plainer.
 fn write(own: u8, dest: u8, payload: &[u8], out: &mut [u8], pec: bool)
     requires { (own ≤ address_most) × (dest ≤ address_most) × (length payload.now ≤ payload_most) × (frame_size pec (length payload.now) ≤ length out.old) }
     ensures { out.new ≡ at_start (frame own dest pec payload.now) out.old }
 {
     let end = MCTP_I2C_HEADER + payload.len();
+    // Byte by byte: a copy of an array says no more, and the law `four_copied` is about four stores and a copy.
     out[0] = dest * 2;
     out[1] = MCTP_I2C_COMMAND_CODE;
     out[2] = (payload.len() + 1) as u8;

@@ -5,7 +5,7 @@ ghost use Rattle.io.specs.Counts.{IsPrefixLen};
 ghost use Rattle.text.specs.Decimal.{decimal};
 ghost use Rattle.listing.specs.Closing.{closing_line};
 
-// Puts a word and a number behind it from `place` on. It returns the place behind them.
+// Puts a word and a number behind it from `place` on. It returns the place behind them; `text::put` says why it stays a parameter.
 fn put_count(word: &[u8], n: u64, out: &mut [u8], place: usize) -> usize
     requires { place + length (word.now ++ decimal n) ≤ length out.old }
     ensures value { result ≡ place + length (word.now ++ decimal n) }

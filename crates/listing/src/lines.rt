@@ -64,7 +64,8 @@ struct Turn {
     state: Receiver,
 }
 
-// Calls the taker once, from a consistent state, and puts the line of a packet that it hands out behind the `used` bytes of the output.
+// Calls the taker once, from a consistent state, and puts the line of a packet that it hands out behind the `used` bytes of the output. Consistency is asked
+// here, and not of the type: a receiver's fields are its caller's.
 fn list_next(receiver: Receiver, input: &[u8], out: &mut [u8], used: usize) -> Turn
     requires { (consistent_of receiver ≡ true) × (used + length (lines_of (heard receiver input.now)) ≤ length out.old) }
     ensures value { result ≡ next_turn receiver input.now used }

@@ -99,7 +99,7 @@ pub extern "C" fn pulevago_receiver_step(
     }
 }
 
-// What is told of why the taker stopped: its number, and the packet's length, which is 0 where there is none.
+// What is told of why the taker stopped: its number, and the packet's length, which is 0 where there is none: C reads it.
 fn told(stop: Stop) -> (u8, usize)
     ensures { (result.0 ≡ reason_number (Ok stop)) × (result.1 ≡ value_of (reason_answer (Ok stop))) }
 {

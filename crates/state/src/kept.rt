@@ -21,7 +21,7 @@ pub fn step(bytes: &mut [u8], b: u8) -> Result<Option<usize>, Inconsistent>
     outcome
 }
 
-// Why the taker stopped, and how many bytes it took.
+// Why the taker stopped, and how many bytes it took. It stays beside `serial::Taken`: the state stays in its buffer, so there is none to hand back.
 #[derive(Clone, Copy, Debug, PartialEq, Eq, Hash)]
 pub struct Took {
     pub reason: Result<Stop, TakeError>,

@@ -30,7 +30,7 @@ pub fn header(size: usize, out: &mut [u8]) -> Result<(), HeaderError>
     if out.len() != HDR_LEN || size > MCTP_USB_MTU_MAX {
         return Err(HeaderError::BadPacket);
     }
-    // Byte by byte: `copy_from_slice` looks whether the two overlap, and costs a header a third more time.
+    // Byte by byte: `copy_from_slice` looks whether the two overlap, and costs a header half as much time again.
     out[0] = FIRST_BYTE;
     out[1] = SECOND_BYTE;
     out[2] = 0;

@@ -1,4 +1,5 @@
-// The calls but a receiver's, each with its arguments from the line's fields and its results as the line has them.
+// The calls but a receiver's, each with its arguments from the line's fields and its results as the line has them. Where they are written and the fields stay two
+// parameters: one is written, the other read.
 use crate::call::Cut;
 use crate::error::LineError;
 use crate::fields::{Fields, LONGEST, no_bytes};
@@ -123,6 +124,7 @@ pub(crate) fn usb_append<W: fmt::Write>(to: &mut W, fields: &mut Fields) -> Resu
 pub(crate) fn usb_walk<W: fmt::Write>(to: &mut W, fields: &mut Fields) -> Result<(), LineError> {
     let mut held = no_bytes();
     let transfer = fields.bytes(&mut held)?;
+    // The place is kept by hand: how far each turn goes is what is tested.
     let mut place = fields.number()?;
     let mut packets = Packets::begin(to)?;
     for _ in 0..=transfer.len() / 4 {

@@ -7,7 +7,7 @@ use crate::error::LineError;
 use crate::fields::Fields;
 use std::{fmt, str};
 
-// No call has more ways to replay it.
+// No call has more ways to replay it. It is a number, since `replay`'s parameter is one: an enum would be a narrower type.
 pub const WAYS: usize = 4;
 
 // Replays the line's vector in one of the ways, which are counted from 0. In a way that its call doesn't have it agrees. A line that isn't of its call's form

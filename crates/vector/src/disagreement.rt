@@ -8,46 +8,43 @@ use std::fmt::Write;
 // The most bytes of a text that says where a vector disagrees.
 const ROOM: usize = 16384;
 
-// A vector that does not agree. It is printed as what its call gives, with what is stored behind it.
+// A vector that does not agree: what its call gives, where the line is of its form. It is printed with what is stored behind it.
 #[derive(Clone, Copy, Debug)]
 pub struct Disagreement<'a> {
-    given: Given<'a>,
+    given: Option<Results<'a>>,
     spaces: usize,
-    // What is stored, which stands behind the text; nothing where it found no room, and of a line that isn't of its call's form.
+    // What is stored, which stands behind the text; no bytes where they found no room, and of a line that isn't of its call's form.
     pub stored: &'a [u8],
 }
 
 impl<'a> Disagreement<'a> {
     // Of a line that isn't of its call's form, or that names no call.
     pub(crate) const NOT_OF_FORM: Disagreement<'static> = Disagreement {
-        given: Given::Nothing,
+        given: None,
         spaces: 0,
         stored: &[],
     };
 
     // Of a call that gives something else than what is stored. Where what is stored finds no room behind the text, spaces fill it.
     pub(crate) fn new(call: Call, text: &'a str, stored: &'a [u8]) -> Disagreement<'a> {
-        let given = Given::Results(call, text);
-        let left = ROOM.saturating_sub(length(given));
-        if stored.len() <= left {
-            return Disagreement {
-                given,
-                spaces: 0,
-                stored,
-            };
-        }
+        let results = Results { call, text };
+        let left = ROOM.saturating_sub(length(results));
+        let fits = stored.len() <= left;
         Disagreement {
-            given,
-            spaces: left,
-            stored: &[],
+            given: Some(results),
+            spaces: if fits { 0 } else { left },
+            stored: if fits { stored } else { &[] },
         }
     }
 }
 
 impl fmt::Display for Disagreement<'_> {
     fn fmt<W: fmt::Write>(&self, f: &mut fmt::Formatter<W>) -> fmt::Result {
-        let given = self.given;
-        write!(f, "{given}")?;
+        let Some(results) = self.given else {
+            let e = LineError::NotOfForm;
+            return write!(f, "{e}");
+        };
+        write!(f, "{results}")?;
         for _ in 0..self.spaces {
             f.write_str(" ")?;
         }
@@ -55,33 +52,26 @@ impl fmt::Display for Disagreement<'_> {
     }
 }
 
-// What is said before what is stored: what the call gives with the arguments of the text, or that they aren't of its form.
+// What the call gives with the arguments of the text, as it is said before what is stored.
 #[derive(Clone, Copy, Debug)]
-enum Given<'a> {
-    Nothing,
-    Results(Call, &'a str),
+struct Results<'a> {
+    call: Call,
+    text: &'a str,
 }
 
-impl fmt::Display for Given<'_> {
+impl fmt::Display for Results<'_> {
     fn fmt<W: fmt::Write>(&self, f: &mut fmt::Formatter<W>) -> fmt::Result {
-        match *self {
-            Given::Nothing => {
-                let e = LineError::NotOfForm;
-                write!(f, "{e}")
-            }
-            Given::Results(call, text) => {
-                write!(f, "{call} gives")?;
-                write_results(f, call, text).map_err(|_| fmt::Error)?;
-                f.write_str(", stored")
-            }
-        }
+        let call = self.call;
+        write!(f, "{call} gives")?;
+        write_results(f, call, self.text).map_err(|_| fmt::Error)?;
+        f.write_str(", stored")
     }
 }
 
 // How many bytes the text has.
-fn length(given: Given) -> usize {
+fn length(results: Results) -> usize {
     let mut counted = Counted(0);
-    let _ = write!(counted, "{given}");
+    let _ = write!(counted, "{results}");
     counted.0
 }
 

@@ -102,7 +102,7 @@ impl<'a> Fields<'a> {
     }
 }
 
-// Puts the bytes of a field at the room's start, and says how many they are.
+// Puts the bytes of a field at the room's start, and says how many they are: a count and no slice, since one caller keeps the bytes in the receiver's array.
 fn read_bytes(field: &str, room: &mut [u8]) -> Result<usize, LineError>
     ensures { IfOk result (λ count. count ≤ length room.new) }
 {

@@ -96,6 +96,7 @@ fn by_take<W: fmt::Write>(
     let filled = calls::filled();
     let mut state = Receiver::fresh();
     let mut packets = Packets::begin(to)?;
+    // The place is kept by hand: how far each turn goes is what is tested.
     let mut place = 0usize;
     for _ in 0..=stream.len() {
         let mut out = filled;

@@ -3,7 +3,7 @@ use crate::position::Named;
 use serial::Receiver;
 use std::fmt;
 
-// Bytes, `-` for none.
+// Bytes, `-` for none. It stays beside `text::put_hex`: that one puts into a lent output, this one writes to a formatter.
 #[derive(Clone, Copy, Debug, PartialEq, Eq)]
 pub(crate) struct Hex<'a>(pub(crate) &'a [u8]);
 
