@@ -64,19 +64,26 @@ impl<'a> Writer<'a> {
         self.register = checks::frame_next(self.register, b);
     }
 
+    // A byte of the packet, escaped, which the check does not cover yet.
+    fn put_stuffed(&mut self, b: u8)
+        requires { self.old.place + length (escaped b) ≤ length self.old.out.now }
+        ensures { Wrote self.old self.new (escaped b) [] }
+    {
+        match b {
+            FRAMING_FLAG | FRAMING_ESCAPE => {
+                self.put(FRAMING_ESCAPE);
+                self.put(escaped_as(b));
+            }
+            _ => self.put(b),
+        }
+    }
+
     // A byte of the packet, escaped, which the check covers.
     fn put_escaped(&mut self, b: u8)
         requires { self.old.place + length (escaped b) ≤ length self.old.out.now }
         ensures { Wrote self.old self.new (escaped b) (b ∷ []) }
     {
-        let last = match b {
-            FRAMING_FLAG | FRAMING_ESCAPE => {
-                self.put(FRAMING_ESCAPE);
-                escaped_as(b)
-            }
-            _ => b,
-        };
-        self.put(last);
+        self.put_stuffed(b);
         self.register = checks::frame_next(self.register, b);
     }
 

@@ -1,10 +1,9 @@
 -- Laws of decode's definitions: what each check makes of the answer, and back, what an answer tells of the input. The definition tests one thing
 -- after the other, so each test's outcome gives the answer, and a source is answered only behind all of them. Assumes nothing.
 use Prim.Native.Nat.{ℕ, ◌-◌, ◌/◌, ◌≤◌, ◌<◌}
-use mathlib.Core.Path.{◌≡◌, ◌∙◌, ap, refl, sym}
+use mathlib.Core.Path.{◌≡◌, ◌∙◌, ap, refl}
 use mathlib.Core.Bool.{Bool, true, false, cond, not, ◌&&◌}
 use mathlib.Core.List.{List, [], ◌∷◌}
-use mathlib.Core.Logic.{◌⊎◌, inl, inr}
 use native.Mathlib.Omega.{arith}
 use lib.Dec.{eqb, ltb}
 use lib.ListN.{length, get_or}
@@ -38,21 +37,17 @@ pub body_short : (bytes : List ℕ) → length bytes < header_size → body_answ
 unfolding body_answer
 body_short bytes h = simp (lt-ltb (length bytes) header_size h)
 
-pub body_wrong : (bytes : List ℕ) → header_size ≤ length bytes → (count : ℕ) → count ≡ get_or bytes 2 0
-    → (count ≡ byte_count (length bytes - header_size) → ⊥) ⊎ ((count ≡ byte_count (length bytes - header_size)) × (get_or bytes 1 0 ≡ command_code → ⊥))
-    → body_answer bytes ≡ answer invalid_input []
+-- either test refuses: the count's, or the command code's
+pub body_refused : (bytes : List ℕ) → header_size ≤ length bytes
+    → (get_or bytes 2 0 ≡ byte_count (length bytes - header_size) → get_or bytes 1 0 ≡ command_code → ⊥) → body_answer bytes ≡ answer invalid_input []
 unfolding body_answer
-body_wrong bytes h count there (inl wrong) =
-    simp (
-      le-ltb (length bytes) header_size h,
-      ne_eqb (get_or bytes 2 0) (byte_count (length bytes - header_size)) (λ e. wrong (there ∙ e)),
-    )
-body_wrong bytes h count there (inr (right, wrong)) =
-    simp (
-      le-ltb (length bytes) header_size h,
-      eq-eqb (get_or bytes 2 0) (byte_count (length bytes - header_size)) (sym there ∙ right),
-      ne_eqb (get_or bytes 1 0) command_code wrong,
-    )
+body_refused bytes h wrong = go (eqb (get_or bytes 2 0) (byte_count (length bytes - header_size))) (eqb (get_or bytes 1 0) command_code) refl refl
+  where
+    go : (count command : Bool) → eqb (get_or bytes 2 0) (byte_count (length bytes - header_size)) ≡ count → eqb (get_or bytes 1 0) command_code ≡ command
+        → body_answer bytes ≡ answer invalid_input []
+    go false command p q = simp (le-ltb (length bytes) header_size h, p)
+    go true false p q = simp (le-ltb (length bytes) header_size h, p, q)
+    go true true p q = absurd (wrong (eqb-true _ _ p) (eqb-true _ _ q))
 
 -- and where none refuses
 pub body_done : (bytes : List ℕ) → header_size ≤ length bytes → get_or bytes 2 0 ≡ byte_count (length bytes - header_size) → get_or bytes 1 0 ≡ command_code

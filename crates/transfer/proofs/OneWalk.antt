@@ -1,7 +1,7 @@
 -- Each public function of the walker allows one result, by its contract as the source states it (`Reads.Post`); of the two methods the contract is read off
 -- their clauses too. Assumes nothing.
 use Rattle.std.specs.Prelude.{ℕ, Option, Some, None, Result, Ok, Err}
-use mathlib.Core.Path.{◌≡◌, ◌∙◌, ap, refl, sym}
+use mathlib.Core.Path.{◌≡◌, ◌∙◌, ap, ap₂, refl, sym}
 use mathlib.Core.List.{List}
 use native.Mathlib.Omega.{arith}
 use seplogic.Ra.Ura.{Ura}
@@ -96,7 +96,14 @@ pub next_yields : (κs : Lfts 2) (a : Dens κs next-kinds.ps) (x : Item) (e : At
     → next-reads.Post κs a x e → Yields a.0.now (yielded_as x e.0.now)
 next_yields κs a x e p = p.0
 
--- and that this leaves no choice: the answer, the packet's bytes and where they lie, and the walker behind it
+-- the answer, and the packet's bytes and where they lie, are one
+pub next_read : OneReading 2 next-kinds.ps next-kinds.r {A = Result (Option ℕ) DecodeError × Option (Result (List ℕ × (ℕ × ℕ)) DecodeError)}
+    (λ κs x. (walked_of x, seen x)) next-reads.Post
+next_read κs a x y e f p q =
+    let all = one_yield a.0.now (yielded_as x e.0.now) (yielded_as y f.0.now) (next_yields κs a x e p) (next_yields κs a y f q) in
+    ap₂ (λ (answer : Result (Option ℕ) DecodeError) (part : Option (Result (List ℕ × (ℕ × ℕ)) DecodeError)). (answer, part)) all.0 all.1
+
+-- and so is the walker behind it
 pub next_one : (κs : Lfts 2) (a : Dens κs next-kinds.ps) (x y : Item) (e f : AtExit (ended_of 2 next-kinds.ps next-kinds.r) κs)
     → next-reads.Post κs a x e → next-reads.Post κs a y f
     → (walked_of x ≡ walked_of y) × (seen x ≡ seen y) × (e.0.now ≡ f.0.now)

@@ -3,7 +3,7 @@
 use crate::call::Cut;
 use crate::error::LineError;
 use crate::fields::{Fields, LONGEST, no_bytes};
-use crate::results::{Answer, Hex, Packets, number_of};
+use crate::results::{Answer, Decimal, Hex, Packets, number_of};
 use std::{array, fmt};
 
 // An output before a call, filled so that a byte that was not written is known: the byte at place i is (160 + i) mod 256.
@@ -25,7 +25,11 @@ pub(crate) fn check<W: fmt::Write>(
     });
     let frame_check = checks::frame_check_from(checks::frame_check(first), second);
     let pec = checks::pec_from(checks::pec(first), second);
-    write!(to, " {frame_check:04x} {pec:02x}")?;
+    let frame_check = frame_check.to_be_bytes();
+    let frame_check = Hex(&frame_check);
+    let pec = [pec];
+    let pec = Hex(&pec);
+    write!(to, " {frame_check} {pec}")?;
     Ok(())
 }
 
@@ -33,8 +37,9 @@ pub(crate) fn check<W: fmt::Write>(
 pub(crate) fn pec<W: fmt::Write>(to: &mut W, fields: &mut Fields) -> Result<(), LineError> {
     let mut held = no_bytes();
     let bytes = fields.bytes(&mut held)?;
-    let pec = checks::pec(bytes);
-    write!(to, " {pec:02x}")?;
+    let pec = [checks::pec(bytes)];
+    let pec = Hex(&pec);
+    write!(to, " {pec}")?;
     Ok(())
 }
 
@@ -76,7 +81,11 @@ pub(crate) fn i2c_decode<W: fmt::Write>(to: &mut W, fields: &mut Fields) -> Resu
     let decoded = i2c::decode(input, pec);
     let number = number_of(decoded);
     match decoded {
-        Ok(source) => write!(to, " {number} {source:02x} {payload}")?,
+        Ok(source) => {
+            let source = [source];
+            let source = Hex(&source);
+            write!(to, " {number} {source} {payload}")?
+        }
         Err(_) => write!(to, " {number} - {payload}")?,
     }
     Ok(())
@@ -114,6 +123,7 @@ pub(crate) fn usb_append<W: fmt::Write>(to: &mut W, fields: &mut Fields) -> Resu
     let mut out = filled();
     let out = &mut out[..room];
     let number = number_of(transfer::append(packet, out, &mut used));
+    let used = Decimal(used as u64);
     let out = Hex(out);
     write!(to, " {number} {used} {out}")?;
     Ok(())
@@ -136,6 +146,7 @@ pub(crate) fn usb_walk<W: fmt::Write>(to: &mut W, fields: &mut Fields) -> Result
     }
     packets.end(to)?;
     let number = number_of(transfer::walk_at(transfer, place));
+    let place = Decimal(place as u64);
     write!(to, " {number} {place}")?;
     Ok(())
 }

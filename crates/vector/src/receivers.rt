@@ -5,7 +5,7 @@ use crate::call::Feeding;
 use crate::calls;
 use crate::error::LineError;
 use crate::fields::{Fields, LONGEST, no_bytes};
-use crate::results::{Given, Hex, Packets, State, number_of};
+use crate::results::{Decimal, Given, Hex, Packets, State, number_of};
 use serial::{Receiver, Stop};
 use std::fmt;
 
@@ -40,7 +40,7 @@ pub(crate) fn take<W: fmt::Write>(to: &mut W, fields: &mut Fields) -> Result<(),
         Err(_) => ("-", None),
     };
     let length = Given(length);
-    let count = taken.taken;
+    let count = Decimal(taken.taken as u64);
     let after = State(taken.state);
     let out = Hex(out);
     write!(to, " {number} {reason} {length} {count} {after} {out}")?;

@@ -1,9 +1,17 @@
-// How results are written: as fields, each with a space before it.
+// How results are written: as fields, each with a space before it. Hex and decimal are `text`'s.
 use crate::position::Named;
 use serial::Receiver;
-use std::fmt;
+use std::{fmt, str};
 
-// Bytes, `-` for none. It stays beside `text::put_hex`: that one puts into a lent output, this one writes to a formatter.
+// How many bytes are put as hex at a time.
+const PIECE: usize = 32;
+
+// Writes what `text` put at a room's start.
+fn write_put<W: fmt::Write>(f: &mut fmt::Formatter<W>, put: &[u8]) -> fmt::Result {
+    f.write_str(str::from_utf8(put).map_err(|_| fmt::Error)?)
+}
+
+// Bytes, `-` for none.
 #[derive(Clone, Copy, Debug, PartialEq, Eq)]
 pub(crate) struct Hex<'a>(pub(crate) &'a [u8]);
 
@@ -12,10 +20,24 @@ impl<'a> fmt::Display for Hex<'a> {
         if self.0.is_empty() {
             return f.write_str("-");
         }
-        for b in self.0 {
-            write!(f, "{b:02x}")?;
+        let mut room = [0u8; 2 * PIECE];
+        for bytes in self.0.chunks(PIECE) {
+            let end = text::put_hex(bytes, &mut room, 0);
+            write_put(f, &room[..end])?;
         }
         Ok(())
+    }
+}
+
+// A number.
+#[derive(Clone, Copy, Debug, PartialEq, Eq)]
+pub(crate) struct Decimal(pub(crate) u64);
+
+impl fmt::Display for Decimal {
+    fn fmt<W: fmt::Write>(&self, f: &mut fmt::Formatter<W>) -> fmt::Result {
+        let mut room = [0u8; 20];
+        let end = text::put_decimal(self.0, &mut room, 0);
+        write_put(f, &room[..end])
     }
 }
 
@@ -26,24 +48,27 @@ pub(crate) struct Given(pub(crate) Option<usize>);
 impl fmt::Display for Given {
     fn fmt<W: fmt::Write>(&self, f: &mut fmt::Formatter<W>) -> fmt::Result {
         match self.0 {
-            Some(n) => write!(f, "{n}"),
+            Some(n) => Decimal(n as u64).fmt(f),
             None => f.write_str("-"),
         }
     }
 }
 
 // An answer's number: 0 where it is done, or the refusal's.
-pub(crate) fn number_of<T: Drop, E: Into<u32>>(answer: Result<T, E>) -> u32 {
+pub(crate) fn number_of<T: Drop, E: Into<u32>>(answer: Result<T, E>) -> Decimal {
     match answer {
-        Ok(_) => checks::DONE,
-        Err(e) => e.into(),
+        Ok(_) => Decimal(u64::from(checks::DONE)),
+        Err(e) => {
+            let number: u32 = e.into();
+            Decimal(u64::from(number))
+        }
     }
 }
 
 // NUMBER LENGTH of an answer: its number, and the length that comes with it.
 #[derive(Clone, Copy, Debug, PartialEq, Eq)]
 pub(crate) struct Answer {
-    number: u32,
+    number: Decimal,
     length: Given,
 }
 
@@ -71,8 +96,8 @@ pub(crate) struct State(pub(crate) Receiver);
 impl fmt::Display for State {
     fn fmt<W: fmt::Write>(&self, f: &mut fmt::Formatter<W>) -> fmt::Result {
         let position = Named(self.0.position);
-        let count = self.0.count;
-        let len = self.0.len;
+        let count = Decimal(self.0.count as u64);
+        let len = Decimal(self.0.len as u64);
         let stored = Hex(trimmed(&self.0.stored));
         write!(f, "{position} {count} {len} {stored}")
     }
@@ -108,6 +133,7 @@ impl Packets {
     ) -> fmt::Result {
         let comma = if self.is_first { "" } else { "," };
         self.is_first = false;
+        let place = Decimal(place as u64);
         let packet = Hex(packet);
         write!(to, "{comma}{place}:{packet}")
     }

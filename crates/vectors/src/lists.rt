@@ -1,17 +1,18 @@
 // A stored list, vector after vector.
-use crate::load::{LoadError, load};
+use crate::load::{ROOM, load};
 use std::io;
 use std::io::{Eprint, Print};
 use std::rt::Files;
 
-// Replays the list that the path names. Of one that isn't replayed only standard error hears, and where that can't be said, nothing does.
-pub(crate) fn replay_at<R: AllocGlobal + Files + Print + Eprint>(
+// Replays the list that the path names, through the room that is lent. Of one that isn't replayed only standard error hears, and where that can't be said,
+// nothing does.
+pub(crate) fn replay_at<R: Files + Print + Eprint>(
     rt: &R,
     path: &str,
+    room: &mut [u8; ROOM],
 ) -> io::Result<()> {
-    match load(rt, path) {
-        Ok(list) => replay(rt, path, &list),
-        Err(LoadError::OutOfMemory(e)) => Err(e),
+    match load(rt, path, room) {
+        Ok(list) => replay(rt, path, list),
         Err(e) => {
             let _ = eprintln!(rt; "{path}: {e}");
             Ok(())

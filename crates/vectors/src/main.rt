@@ -22,8 +22,9 @@ const LISTS: [&str; 10] = [
 ];
 
 fn main(rt: HostRuntime) -> io::Result<()> {
+    let mut room = [0u8; load::ROOM];
     for path in LISTS {
-        lists::replay_at(&rt, path)?;
+        lists::replay_at(&rt, path, &mut room)?;
     }
     Ok(())
 }
