@@ -106,33 +106,6 @@ pub escaped_other : (b : ℕ) → (b ≡ flag → ⊥) → (b ≡ escape → ⊥
 unfolding escaped
 escaped_other b h k = simp (ne_eqb b flag h, ne_eqb b escape k)
 
--- what stands before the last of a byte's bytes is written
-pub record Led (before here : Writer) (b last : ℕ) : Type 0 where
-  pub front : List ℕ
-  pub written : Wrote before here front []
-  pub whole : escaped b ≡ front ++ (last ∷ [])
-
--- the escape, or nothing
-pub led_pair : (before here : Writer) (b last : ℕ) → escape ≤ b → b ≤ flag → last ≡ cond (eqb b flag) flag_escaped escape_escaped
-    → Wrote before here (escape ∷ []) [] → Led before here b last
-led_pair before here b last low high e w = record { front = escape ∷ []; written = w; whole = escaped_pair b last low high e }
-
-pub led_other : (before : Writer) (b : ℕ) → before.place ≤ length before.out.now → (b ≡ flag → ⊥) → (b ≡ escape → ⊥) → Led before before b b
-led_other before b room h k = record { front = []; written = wrote_nothing before room; whole = escaped_other b h k }
-
--- there is room for the last, and with it the byte is written
-pub led_room : (before here : Writer) (b last : ℕ) → Led before here b last → before.place + length (escaped b) ≤ length before.out.now
-    → here.place + 1 ≤ length here.out.now
-led_room before here b last led room = omega (arith, ap length led.whole, length-append led.front (last ∷ []), led.written.place, led.written.same_length)
-
-pub led_last : (before here after : Writer) (b last next : ℕ) → Led before here b last → before.place + length (escaped b) ≤ length before.out.now
-    → Wrote here after (last ∷ []) [] → next ≡ byte_step frame_register after.register b
-    → Wrote before (record after { register = next }) (escaped b) (b ∷ [])
-led_last before here after b last next led room w e =
-    let fits : before.place + length led.front ≤ length before.out.now = omega (arith, ap length led.whole, length-append led.front (last ∷ [])) in
-    rw led.whole
-    (covered_last before after b next (led.front ++ (last ∷ [])) (wrote_then before here after led.front (last ∷ []) [] [] fits led.written w) e)
-
 -- three steps of a byte each
 pub wrote_three : (first second third last : Writer) (x y z : ℕ) (cs ds es : List ℕ) → first.place + 3 ≤ length first.out.now
     → Wrote first second (x ∷ []) cs → Wrote second third (y ∷ []) ds → Wrote third last (z ∷ []) es

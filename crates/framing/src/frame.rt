@@ -65,7 +65,7 @@ impl<'a> Writer<'a> {
     }
 
     // A byte of the packet, escaped, which the check does not cover yet.
-    fn put_stuffed(&mut self, b: u8)
+    fn put_unchecked(&mut self, b: u8)
         requires { self.old.place + length (escaped b) ≤ length self.old.out.now }
         ensures { Wrote self.old self.new (escaped b) [] }
     {
@@ -83,7 +83,7 @@ impl<'a> Writer<'a> {
         requires { self.old.place + length (escaped b) ≤ length self.old.out.now }
         ensures { Wrote self.old self.new (escaped b) (b ∷ []) }
     {
-        self.put_stuffed(b);
+        self.put_unchecked(b);
         self.register = checks::frame_next(self.register, b);
     }
 

@@ -123,7 +123,7 @@ pub(crate) fn usb_append<W: fmt::Write>(to: &mut W, fields: &mut Fields) -> Resu
     let mut out = filled();
     let out = &mut out[..room];
     let number = number_of(transfer::append(packet, out, &mut used));
-    let used = Decimal(used as u64);
+    let used = Decimal(used);
     let out = Hex(out);
     write!(to, " {number} {used} {out}")?;
     Ok(())
@@ -146,7 +146,7 @@ pub(crate) fn usb_walk<W: fmt::Write>(to: &mut W, fields: &mut Fields) -> Result
     }
     packets.end(to)?;
     let number = number_of(transfer::walk_at(transfer, place));
-    let place = Decimal(place as u64);
+    let place = Decimal(place);
     write!(to, " {number} {place}")?;
     Ok(())
 }

@@ -40,7 +40,7 @@ pub(crate) fn take<W: fmt::Write>(to: &mut W, fields: &mut Fields) -> Result<(),
         Err(_) => ("-", None),
     };
     let length = Given(length);
-    let count = Decimal(taken.taken as u64);
+    let count = Decimal(taken.taken);
     let after = State(taken.state);
     let out = Hex(out);
     write!(to, " {number} {reason} {length} {count} {after} {out}")?;

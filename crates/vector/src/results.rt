@@ -6,7 +6,7 @@ use std::{fmt, str};
 // How many bytes are put as hex at a time.
 const PIECE: usize = 32;
 
-// Writes what `text` put at a room's start.
+// Writes the text that `text` put at a room's start.
 fn write_put<W: fmt::Write>(f: &mut fmt::Formatter<W>, put: &[u8]) -> fmt::Result {
     f.write_str(str::from_utf8(put).map_err(|_| fmt::Error)?)
 }
@@ -31,12 +31,12 @@ impl<'a> fmt::Display for Hex<'a> {
 
 // A number.
 #[derive(Clone, Copy, Debug, PartialEq, Eq)]
-pub(crate) struct Decimal(pub(crate) u64);
+pub(crate) struct Decimal(pub(crate) usize);
 
 impl fmt::Display for Decimal {
     fn fmt<W: fmt::Write>(&self, f: &mut fmt::Formatter<W>) -> fmt::Result {
         let mut room = [0u8; 20];
-        let end = text::put_decimal(self.0, &mut room, 0);
+        let end = text::put_decimal(self.0 as u64, &mut room, 0);
         write_put(f, &room[..end])
     }
 }
@@ -48,7 +48,7 @@ pub(crate) struct Given(pub(crate) Option<usize>);
 impl fmt::Display for Given {
     fn fmt<W: fmt::Write>(&self, f: &mut fmt::Formatter<W>) -> fmt::Result {
         match self.0 {
-            Some(n) => Decimal(n as u64).fmt(f),
+            Some(n) => Decimal(n).fmt(f),
             None => f.write_str("-"),
         }
     }
@@ -57,10 +57,10 @@ impl fmt::Display for Given {
 // An answer's number: 0 where it is done, or the refusal's.
 pub(crate) fn number_of<T: Drop, E: Into<u32>>(answer: Result<T, E>) -> Decimal {
     match answer {
-        Ok(_) => Decimal(u64::from(checks::DONE)),
+        Ok(_) => Decimal(checks::DONE as usize),
         Err(e) => {
             let number: u32 = e.into();
-            Decimal(u64::from(number))
+            Decimal(number as usize)
         }
     }
 }
@@ -96,8 +96,8 @@ pub(crate) struct State(pub(crate) Receiver);
 impl fmt::Display for State {
     fn fmt<W: fmt::Write>(&self, f: &mut fmt::Formatter<W>) -> fmt::Result {
         let position = Named(self.0.position);
-        let count = Decimal(self.0.count as u64);
-        let len = Decimal(self.0.len as u64);
+        let count = Decimal(self.0.count);
+        let len = Decimal(self.0.len);
         let stored = Hex(trimmed(&self.0.stored));
         write!(f, "{position} {count} {len} {stored}")
     }
@@ -133,7 +133,7 @@ impl Packets {
     ) -> fmt::Result {
         let comma = if self.is_first { "" } else { "," };
         self.is_first = false;
-        let place = Decimal(place as u64);
+        let place = Decimal(place);
         let packet = Hex(packet);
         write!(to, "{comma}{place}:{packet}")
     }

@@ -1,9 +1,9 @@
--- `framing::Writer::put_stuffed` does what its contract says: a byte that is escaped goes out as two, any other as it stands. Assumes nothing.
+-- `framing::Writer::put_unchecked` does what its contract says: a byte that is escaped goes out as two, any other as it stands. Assumes nothing.
 use Rattle.std.proofs.Common.{◌≡◌, [], ◌∷◌, arith, ap, length, refl}
 use Rattle.framing.specs.Frame.{escape, escaped}
 use Rattle.framing.proofs.Writing.{escaped_other, escaped_pair, wrote_then}
-use Rattle.framing.proofs.frame.Writer.put_stuffed.Goals as goal
-use Rattle.framing.proofs.frame.Writer.put_stuffed.Goals.{in_default-via-then-b-lt125, in_default-via-else-b-lt125+else-b-lt127}
+use Rattle.framing.proofs.frame.Writer.put_unchecked.Goals as goal
+use Rattle.framing.proofs.frame.Writer.put_unchecked.Goals.{in_default-via-then-b-lt125, in_default-via-else-b-lt125+else-b-lt127}
 
 pub put-requires : goal.put-requires
 put-requires c = omega (arith, ap length (escaped_pair c.args.b _ (omega arith) (omega arith) refl))
