@@ -11,7 +11,7 @@ use usb::{DecodeError, HDR_LEN};
 pub fn walk_at(transfer: &[u8], place: usize) -> Result<Option<usize>, DecodeError>
     ensures { walked_answer result ≡ walk_answer transfer.now place }
 {
-    // By a test of its own: through `get` a call for C takes half as long again.
+    // By a test of its own: through `get` a call for C takes 54 instructions for 47, and 16 bytes more of stack.
     if place > transfer.len() {
         return Err(DecodeError::RxFailure);
     }
